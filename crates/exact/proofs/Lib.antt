@@ -1,0 +1,12 @@
+pub mod NatProver
+pub mod NatProverExamples
+pub mod FractionLaws
+pub mod FractionProver
+pub mod FractionProverExamples
+pub mod Closeness
+pub mod FractionDivision
+pub mod RoundingGrid
+pub mod Rounding
+pub mod ExactResults
+pub mod Comparisons
+pub mod ErrorCalculus

@@ -1,0 +1,3 @@
+pub mod Fraction
+pub mod FloatValue
+pub mod Float64

@@ -1,0 +1,1 @@
+// Exact arithmetic for the error bounds of the other crates: definitions and laws only, no function.
