@@ -1,4 +1,7 @@
 // The device record and the types of its calls (the Rust's device.rs, and `Mosfet1` of mosfet1.rs).
+ghost use mathlib.Core.Path.{_≡_};
+ghost use Rattle.device.specs.Limits.{within, outsideTemperatures};
+ghost use Rattle.device.specs.Stages.{stageNumber, before};
 use temperature::Kelvin;
 
 // A node of the circuit: ground, or the number of its row.
@@ -28,6 +31,39 @@ pub enum Stage {
     Scaled,
     Bound,
     Evaluated,
+}
+
+pub fn stage_number(stage: Stage) -> u8
+    ensures { λ r. ⌜ r ≡ stageNumber stage ⌝ }
+{
+    match stage {
+        Stage::Card => 0,
+        Stage::Geometry => 1,
+        Stage::Scaled => 2,
+        Stage::Bound => 3,
+        Stage::Evaluated => 4,
+    }
+}
+
+// Whether a stage comes before another.
+pub fn before(stage: Stage, other: Stage) -> bool
+    ensures { λ r. ⌜ r ≡ before stage other ⌝ }
+{
+    stage_number(stage) < stage_number(other)
+}
+
+// Whether a number lies in a range, ends included; a NaN does not.
+pub fn within(x: f64, least: f64, greatest: f64) -> bool
+    ensures { λ r. ⌜ r ≡ within x least greatest ⌝ }
+{
+    if least <= x { x <= greatest } else { false }
+}
+
+// Whether a temperature is one that row 6 refuses.
+pub fn outside_temperatures(t: Kelvin) -> bool
+    ensures { λ r. ⌜ r ≡ outsideTemperatures t ⌝ }
+{
+    !within(t.0, 200.0, 500.0)
 }
 
 // What the card says.

@@ -1,4 +1,4 @@
--- Absolute values and errors: |x - y| ≤ e composes.
+-- Closeness: |x - y| ≤ e, and how it composes.
 use Prim.Native.Nat.{ℕ, zero, suc, _+_, _-_, _*_, _≤_, _<_, zero-le}
 use mathlib.Core.Path.{_≡_, refl, ap}
 use mathlib.Core.List.{List, [], _∷_}
@@ -6,43 +6,11 @@ use native.Mathlib.Nat.{mul-le-mul-right, le-trans, le-of-eq}
 use native.Mathlib.Omega.{arith, sub-cases}
 use lib.Dec.{T}
 use Rattle.exact.specs.Fraction.{ℚ, _//_, nat, _+q_, negq, _-q_, _*q_, absq, _≤q_, _≈q_, Within}
+pub use Rattle.exact.proofs.AbsoluteValue.{le-abs, neg-le-abs, abs-nonneg, abs-le}
 use Rattle.exact.proofs.FractionLaws.{≈-refl, ≈-sym, ≈-trans, *-comm, ≤-of-≈, ≤-refl, ≤-trans, +-mono, *-mono, neg-mono}
 use Rattle.exact.proofs.FractionProver.{QE, qv, ##, _÷_, _⊞_, _⊟_, _⊠_, ⊝, leq, linq, _⊑_by_}
 
--- ---- |x|
-pub le-abs : (x : ℚ) → x ≤q absq x
-unfolding absq
-le-abs x = record { le = omega (arith, mul-le-mul-right (x .d) (one (x .p) (x .q))) }
-  where
-    one : (p q : ℕ) → p ≤ p - q + (q - p) + q
-    one p q = omega arith
-
-pub neg-le-abs : (x : ℚ) → negq x ≤q absq x
-unfolding absq negq
-neg-le-abs x = record { le = omega (arith, mul-le-mul-right (x .d) (one (x .p) (x .q))) }
-  where
-    one : (p q : ℕ) → q ≤ p - q + (q - p) + p
-    one p q = omega arith
-
-pub abs-nonneg : (x : ℚ) → nat 0 ≤q absq x
-unfolding absq nat
-abs-nonneg x = record { le = omega arith }
-
-pub abs-le : {x e : ℚ} → x ≤q e → negq x ≤q e → absq x ≤q e
-unfolding absq negq
-abs-le {x} {e} f g = record { le = go (x .p) (x .q) (x .d) (e .p) (e .q) (e .d) (f .le) (g .le) }
-  where
-    either : (p q u w : ℕ) (G : Type 0) → (p - q + (q - p) + q ≡ p → G) → (p - q + (q - p) + p ≡ q → G) → G
-    either p q u w G a b = sub-cases p q G (λ l e. a (omega arith)) (λ l e. b (omega arith))
-
-    go : (p q d ep eq ed : ℕ) → p * ed + eq * d ≤ ep * d + q * ed → q * ed + eq * d ≤ ep * d + p * ed → (p - q + (q - p)) * ed + eq * d ≤ ep * d + 0 * ed
-    go p q d ep eq ed f g =
-        either p q 0 0 ((p - q + (q - p)) * ed + eq * d ≤ ep * d + 0 * ed)
-        (λ (e : p - q + (q - p) + q ≡ p). omega (arith, ap (λ t. t * ed) e))
-        (λ (e : p - q + (q - p) + p ≡ q). omega (arith, ap (λ t. t * ed) e))
-
 -- ---- |x - y| ≤ e, as one fact
-
 pub within-abs : {x y e : ℚ} → absq (x -q y) ≤q e → Within x y e
 within-abs {x} {y} {e} h = record {
   above = ≤-trans (le-abs (x -q y)) h;

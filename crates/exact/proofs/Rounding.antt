@@ -13,23 +13,14 @@ use lib.Ieee.{Float, nan, inf, fin, Format, binary64, prec, emax, low, up, down,
 use lib.Ieee.Fits.{down-pos, up-pos, two, two-le-pos, and-l, and-r}
 use lib.Ieee.Exact.{HasValue}
 use lib.Ieee.Scale.{grid, overflow, finite}
-use Rattle.exact.specs.Fraction.{ℚ, _//_, nat, _+q_, negq, _-q_, _*q_, absq, _≤q_, _≈q_, Within}
+use Rattle.exact.specs.Fraction.{ℚ, _//_, nat, _+q_, negq, _-q_, _*q_, _/q_, absq, _≤q_, _≈q_, Within}
 use Rattle.exact.specs.FloatValue.{signed, value, eps, tiny, err}
 use Rattle.exact.proofs.RoundingGrid.{Apart, pow-pred, grid-near, grid-near-whole, grid-under, half-top, round-under, round-value, value-finite}
 use Rattle.exact.proofs.FractionLaws.{≈-refl, ≈-sym, ≈-trans, +-cong, *-cong, *-comm, ≤-of-≈, ≤-refl, ≤-trans, +-mono, *-mono, neg-cong}
 use Rattle.exact.proofs.FractionProver.{QE, qv, ##, _÷_, _⊞_, _⊟_, _⊠_, ⊝, leq, linq, _⊑_by_}
+pub use Rattle.exact.proofs.AbsoluteValue.{abs-neg, abs-mono-≈}
+use Rattle.exact.proofs.FractionDivision.{div-*}
 use Rattle.exact.proofs.Closeness.{within-≈, within-mono, abs-le, le-abs, neg-le-abs, abs-nonneg}
-
--- ---- absolute values
-pub abs-neg : (x : ℚ) → absq (negq x) ≈q absq x
-unfolding absq negq
-abs-neg x = record { eq = omega (arith, ap (λ t. t * x .d) (both (x .p) (x .q))) }
-  where
-    both : (p q : ℕ) → q - p + (p - q) ≡ p - q + (q - p)
-    both p q = omega arith
-
-pub abs-mono-≈ : {x y : ℚ} → x ≈q y → absq x ≤q absq y
-abs-mono-≈ {x} {y} e = abs-le (≤-trans (≤-of-≈ e) (le-abs y)) (≤-trans (≤-of-≈ (neg-cong e)) (neg-le-abs y))
 
 pub within-neg : {x y e : ℚ} → Within x y e → Within (negq x) (negq y) e
 within-neg {x} {y} {e} w = let ρ = x ∷ y ∷ e ∷ [] in record {
@@ -334,7 +325,7 @@ unfolding _+q_
 sum-at a b c d u W = record { eq = omega arith }
 
 -- ---- sums of values that the format holds have no error of the absolute kind
-pow-le-inv : (a b : ℕ) → 2 ^ a ≤ 2 ^ b → a ≤ b
+pub pow-le-inv : (a b : ℕ) → 2 ^ a ≤ 2 ^ b → a ≤ b
 pow-le-inv a b h = go (leb a b) (leb→le a b) (nleb→lt a b)
   where
     go : (t : Bool) → (T t → a ≤ b) → (T (not t) → b < a) → a ≤ b
@@ -370,18 +361,40 @@ fits-grid f (fin s (suc m) e) t h =
     let c = down-divides e (low f) (leb→le (down e) (2 ^ low f) (and-r (eqb (suc m % 2) 1 && ltb (suc m) (2 ^ prec f)) (leb (down e) (2 ^ low f)) (and-l (eqb (suc m % 2) 1 && ltb (suc m) (2 ^ prec f) && leb (down e) (2 ^ low f)) (ltb (suc m * up e) (2 ^ suc (emax f) * down e)) h))) in
     grid-at f s (suc m * up e) (down e) (down-pos e) (c .0) (c .1)
 
+neg-at : (a b u : ℕ) (W : 0 < u) {x : ℚ} → record { p = a; q = b; d = u; d-pos = W } ≈q x → record { p = b; q = a; d = u; d-pos = W } ≈q negq x
+unfolding negq
+neg-at a b u W e = let h = e .eq in record { eq = omega arith }
+
 pub grid-+ : {f : Format} {x y : ℚ} → OnGrid f x → OnGrid f y → OnGrid f (x +q y)
 grid-+ {f} {x} {y} g h = record { above = g .above + h .above; below = g .below + h .below; grid-val = ≈-trans (sum-at (g .above) (g .below) (h .above) (h .below) (2 ^ low f) (pow-pos (low f))) (+-cong (g .grid-val) (h .grid-val)) }
+
+pub grid-neg : {f : Format} {x : ℚ} → OnGrid f x → OnGrid f (negq x)
+grid-neg {f} {x} g = record { above = g .below; below = g .above; grid-val = neg-at (g .above) (g .below) (2 ^ low f) (pow-pos (low f)) (g .grid-val) }
+
+pub grid-- : {f : Format} {x y : ℚ} → OnGrid f x → OnGrid f y → OnGrid f (x -q y)
+unfolding _-q_
+grid-- g h = grid-+ g (grid-neg h)
 
 -- the law for sums: |x - (a + b)| ≤ 2 ^ -53 |a + b|
 pub add-near : (f : Format) (x y : Float) → T (finite x) → T (finite y) → T (fits f x) → T (fits f y) → T (finite (add f x y)) → Within (value (add f x y)) (value x +q value y) (eps f *q absq (value x +q value y))
 add-near f x y p q a b t = near-grid f (add f x y) (value x +q value y) (add-rounded f x y p q) (grid-+ (fits-grid f x p a) (fits-grid f y q b)) t
+
+-- and for differences
+pub sub-near : (f : Format) (x y : Float) → T (finite x) → T (finite y) → T (fits f x) → T (fits f y) → T (finite (sub f x y)) → Within (value (sub f x y)) (value x -q value y) (eps f *q absq (value x -q value y))
+sub-near f x y p q a b t = near-grid f (sub f x y) (value x -q value y) (sub-rounded f x y p q) (grid-- (fits-grid f x p a) (fits-grid f y q b)) t
 
 pub mul-near : (f : Format) (x y : Float) → T (finite x) → T (finite y) → T (finite (mul f x y)) → Within (value (mul f x y)) (value x *q value y) (err f (value x *q value y))
 mul-near f x y p q t = near f (mul f x y) (value x *q value y) (mul-rounded f x y p q) t
 
 pub div-near : (f : Format) (x y : Float) (z : ℚ) → T (finite x) → T (finite y) → ¬ (value y ≈q nat 0) → z *q value y ≈q value x → T (finite (div f x y)) → Within (value (div f x y)) z (err f z)
 div-near f x y z p q nz h t = near f (div f x y) z (div-rounded f x y z p q nz h) t
+
+-- against the quotient itself
+pub div-rounded-q : (f : Format) (x y : Float) → T (finite x) → T (finite y) → ¬ (value y ≈q nat 0) → Rounded f (div f x y) (value x /q value y)
+div-rounded-q f x y p q nz = div-rounded f x y (value x /q value y) p q nz (div-* (value x) (value y) nz)
+
+pub div-near-q : (f : Format) (x y : Float) → T (finite x) → T (finite y) → ¬ (value y ≈q nat 0) → T (finite (div f x y)) → Within (value (div f x y)) (value x /q value y) (err f (value x /q value y))
+div-near-q f x y p q nz t = near f (div f x y) (value x /q value y) (div-rounded-q f x y p q nz) t
 
 -- ---- finite up to the largest finite value, 2 ^ 1024 - 2 ^ 971
 abbrev pub largest : Format → ℕ

@@ -1,3 +1,4 @@
 pub mod Fraction
 pub mod FloatValue
 pub mod Float64
+pub mod Size

@@ -1,0 +1,116 @@
+-- The float of a pattern that `assembled` makes. Assumes nothing.
+use mathlib.Core.Path.{_≡_, refl, sym, ap, _∙_, subst}
+use mathlib.Core.Bool.{Bool, true, false, cond}
+use Prim.Native.Nat.{ℕ, zero, suc, _+_, _-_, _*_, _/_, _%_, _^_, _≤_, _<_}
+use native.Mathlib.Nat.{le-refl, le-trans, le-of-eq, lt-of-not-le, mul-assoc, mul-comm, mul-left-comm, mul-le-mul-left, mul-le-mul-right, mul-add, add-comm, eq-of-mul-eq-mul-right}
+use native.Mathlib.Decide.{decLe}
+use native.Mathlib.Omega.{arith}
+use lib.Dec.{T, ltb, lit<}
+use lib.Pow.{pow-add, pow-pos}
+use lib.Ieee.{Float, nan, inf, fin, binary64, ofBits, up, down}
+use lib.Ieee.Exact.{HasValue}
+use borrow.Author.Tests.{lt-ltb, le-ltb}
+use Rattle.exponential.proofs.Patterns.{unitsOf, value}
+use Rattle.exponential.specs.Exponential.{patternOf}
+
+-- s * 2 ^ e units, for an s of 53 digits
+units-at : (s e : ℕ) → 2 ^ 52 ≤ s → s < 2 ^ 53 → unitsOf (e * 2 ^ 52 + s) ≡ s * 2 ^ e
+unfolding unitsOf
+units-at s e lo hi =
+    ap (λ (t : Bool). cond t (e * 2 ^ 52 + s) (((e * 2 ^ 52 + s) % 2 ^ 52 + 2 ^ 52) * 2 ^ ((e * 2 ^ 52 + s) / 2 ^ 52 - 1))) (le-ltb (e * 2 ^ 52 + s) (2 ^ 52) (large s e lo))
+    ∙ (λ i. digits s e lo hi i * 2 ^ place s e lo hi i)
+  where
+    large : (s e : ℕ) → 2 ^ 52 ≤ s → 2 ^ 52 ≤ e * 2 ^ 52 + s
+    large s e h = omega arith
+
+    digits : (s e : ℕ) → 2 ^ 52 ≤ s → s < 2 ^ 53 → (e * 2 ^ 52 + s) % 2 ^ 52 + 2 ^ 52 ≡ s
+    digits s e h k = omega arith
+
+    place : (s e : ℕ) → 2 ^ 52 ≤ s → s < 2 ^ 53 → (e * 2 ^ 52 + s) / 2 ^ 52 - 1 ≡ e
+    place s e h k = omega arith
+
+smaller : (y : Float) (s k : ℕ) → HasValue y false (s * 2 ^ (k + 1022)) (2 ^ 1074) → HasValue y false (s * 2 ^ k) (2 ^ 52)
+smaller nan s k v = absurd v
+smaller (inf t) s k v = absurd v
+smaller (fin t m e) s k v = (
+  v .0,
+  eq-of-mul-eq-mul-right (2 ^ 1022) (pow-pos 1022) (m * up e * 2 ^ 52) (s * 2 ^ k * down e)
+      (mul-assoc (m * up e) (2 ^ 52) (2 ^ 1022) ∙ v .1 ∙ ap (λ (z : ℕ). s * z * down e) (pow-add 2 k 1022) ∙ sort s (2 ^ k) (2 ^ 1022) (down e)),
+)
+  where
+    sort : (s p q d : ℕ) → s * (p * q) * d ≡ s * p * d * q
+    sort s p q d = simp (mul-assoc, mul-comm, mul-left-comm) refl
+
+at : (s k : ℕ) → 2 ^ 52 ≤ s → s < 2 ^ 53 → k ≤ 1011 → HasValue (ofBits binary64 ((k + 1022) * 2 ^ 52 + s)) false (s * 2 ^ k) (2 ^ 52)
+at s k lo hi h = smaller (ofBits binary64 ((k + 1022) * 2 ^ 52 + s)) s k (subst (λ (n : ℕ). HasValue (ofBits binary64 ((k + 1022) * 2 ^ 52 + s)) false n (2 ^ 1074)) (units-at s (k + 1022) lo hi) (value ((k + 1022) * 2 ^ 52 + s) (small s k hi h)))
+  where
+    small : (s k : ℕ) → s < 2 ^ 53 → k ≤ 1011 → (k + 1022) * 2 ^ 52 + s < 2047 * 2 ^ 52
+    small s k h g = omega arith
+
+pub record Held (m k : ℕ) (r : Float) : Type 0 where
+  pub w : ℕ
+  pub is : HasValue r false w (2 ^ 52)
+  pub under : w * 2 ^ 10 ≤ 2 ^ k * m
+  pub over : 2 ^ k * m ≤ w * 2 ^ 10 + 2 ^ 11 * 2 ^ k
+
+pub held : (m k : ℕ) → 2 ^ 62 ≤ m → m < 2 ^ 64 → k ≤ 1010 → Held m k (ofBits binary64 (patternOf m k))
+unfolding patternOf
+held m k lo hi h = either (decLe (2 ^ 63) m)
+  where
+    sort : (s p q : ℕ) → s * p * q ≡ p * (s * q)
+    sort s p q = simp (mul-assoc, mul-comm, mul-left-comm) refl
+
+    either : Dec (2 ^ 63 ≤ m) → Held m k (ofBits binary64 (cond (ltb m (2 ^ 63)) ((k + 1022) * 2 ^ 52 + m / 2 ^ 10) ((k + 1023) * 2 ^ 52 + m / 2 ^ 11)))
+    either (yes g) =
+        subst (λ (t : Bool). Held m k (ofBits binary64 (cond t ((k + 1022) * 2 ^ 52 + m / 2 ^ 10) ((k + 1023) * 2 ^ 52 + m / 2 ^ 11)))) (sym (le-ltb m (2 ^ 63) g))
+        (record {
+          w = m / 2 ^ 11 * 2 ^ (k + 1);
+          is = subst (λ (z : ℕ). HasValue (ofBits binary64 (z * 2 ^ 52 + m / 2 ^ 11)) false (m / 2 ^ 11 * 2 ^ (k + 1)) (2 ^ 52)) (next k) (at (m / 2 ^ 11) (k + 1) (low m g) (high m hi) (more k h));
+          under = le-trans (le-of-eq (sort' m)) (mul-le-mul-left (2 ^ k) (cut m));
+          over = le-trans (mul-le-mul-left (2 ^ k) (rest m)) (le-of-eq (mul-add (2 ^ k) (m / 2 ^ 11 * 2 ^ 11) (2 ^ 11) ∙ (λ i. sym (sort' m) i + mul-comm (2 ^ k) (2 ^ 11) i)));
+        })
+      where
+        next : (k : ℕ) → k + 1 + 1022 ≡ k + 1023
+        next k = omega arith
+
+        low : (m : ℕ) → 2 ^ 63 ≤ m → 2 ^ 52 ≤ m / 2 ^ 11
+        low m h = omega arith
+
+        high : (m : ℕ) → m < 2 ^ 64 → m / 2 ^ 11 < 2 ^ 53
+        high m h = omega arith
+
+        more : (k : ℕ) → k ≤ 1010 → k + 1 ≤ 1011
+        more k h = omega arith
+
+        cut : (m : ℕ) → m / 2 ^ 11 * 2 ^ 11 ≤ m
+        cut m = omega arith
+
+        rest : (m : ℕ) → m ≤ m / 2 ^ 11 * 2 ^ 11 + 2 ^ 11
+        rest m = omega arith
+
+        sort' : (m : ℕ) → m / 2 ^ 11 * 2 ^ (k + 1) * 2 ^ 10 ≡ 2 ^ k * (m / 2 ^ 11 * 2 ^ 11)
+        sort' m = ap (λ (z : ℕ). m / 2 ^ 11 * z * 2 ^ 10) (pow-add 2 k 1) ∙ mul-assoc (m / 2 ^ 11) (2 ^ k * 2) (2 ^ 10) ∙ ap (λ (z : ℕ). m / 2 ^ 11 * z) (mul-assoc (2 ^ k) 2 (2 ^ 10)) ∙ mul-left-comm (m / 2 ^ 11) (2 ^ k) (2 ^ 11)
+    either (no f) =
+        let g : m < 2 ^ 63 = lt-of-not-le f in
+        subst (λ (t : Bool). Held m k (ofBits binary64 (cond t ((k + 1022) * 2 ^ 52 + m / 2 ^ 10) ((k + 1023) * 2 ^ 52 + m / 2 ^ 11)))) (sym (lt-ltb m (2 ^ 63) g))
+        (record {
+          w = m / 2 ^ 10 * 2 ^ k;
+          is = at (m / 2 ^ 10) k (low m lo) (high m g) (more k h);
+          under = le-trans (le-of-eq (sort (m / 2 ^ 10) (2 ^ k) (2 ^ 10))) (mul-le-mul-left (2 ^ k) (cut m));
+          over = le-trans (mul-le-mul-left (2 ^ k) (rest m)) (le-of-eq (mul-add (2 ^ k) (m / 2 ^ 10 * 2 ^ 10) (2 ^ 11) ∙ (λ i. sym (sort (m / 2 ^ 10) (2 ^ k) (2 ^ 10)) i + mul-comm (2 ^ k) (2 ^ 11) i)));
+        })
+      where
+        low : (m : ℕ) → 2 ^ 62 ≤ m → 2 ^ 52 ≤ m / 2 ^ 10
+        low m h = omega arith
+
+        high : (m : ℕ) → m < 2 ^ 63 → m / 2 ^ 10 < 2 ^ 53
+        high m h = omega arith
+
+        more : (k : ℕ) → k ≤ 1010 → k ≤ 1011
+        more k h = omega arith
+
+        cut : (m : ℕ) → m / 2 ^ 10 * 2 ^ 10 ≤ m
+        cut m = omega arith
+
+        rest : (m : ℕ) → m ≤ m / 2 ^ 10 * 2 ^ 10 + 2 ^ 11
+        rest m = omega arith

@@ -1,0 +1,16 @@
+pub mod Table
+pub mod LnTwo
+pub mod Horner
+pub mod Mantissa
+pub mod Steps
+pub mod Whole
+pub mod Ranges
+pub mod Patterns
+pub mod Cutting
+pub mod Assembling
+pub mod Near
+pub mod Final
+pub mod Above
+pub mod Rounding
+pub mod Inverse
+pub mod Successor

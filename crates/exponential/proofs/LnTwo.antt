@@ -1,0 +1,39 @@
+-- The powers of two: Λ / 2^64 is ln 2 within 2^-64, and e^(k Λ / 2^64) is 2^k but for k parts in 2^63. Assumes nothing.
+use mathlib.Core.Path.{_≡_, refl, sym, ap, _∙_, subst}
+use Prim.Native.Nat.{ℕ, zero, suc, _+_, _-_, _*_, _^_, _≤_, _<_}
+use native.Mathlib.Nat.{le-refl, le-trans, le-of-eq, mul-assoc, mul-comm, mul-left-comm, mul-mul-mul-comm, mul-add, add-mul, add-le-add, mul-le-mul, mul-le-mul-left, mul-le-mul-right, le-add-right, one-mul, mul-one, mul-pos, zero-lt-suc, suc-mul, mul-suc, zero-add, pow-zero, pow-succ', le-of-mul-le-mul-right}
+use native.Mathlib.Omega.{arith}
+use lib.Dec.{T, leb, leb→le, lit≤, lit<}
+use lib.Pow.{pow-pos}
+use Rattle.series.specs.Series.{top, bot}
+use Rattle.series.proofs.Product.{bot-pos}
+use Rattle.series.proofs.Bounds.{Up, Lo, crown, up-crown, up-weaken, lo-weaken, up-pow, lo-pow}
+
+abbrev pub Λ : ℕ
+Λ = 12786308645202655659
+
+up-test : T (leb (crown 24 Λ (2 ^ 64) * 1) (2 * bot 25 (2 ^ 64)))
+unfolding crown top bot
+up-test = tt
+
+lo-test : T (leb (2 * (2 ^ 63 - 1) * bot 24 (2 ^ 64)) (top 24 Λ (2 ^ 64) * 2 ^ 63))
+unfolding top bot
+lo-test = tt
+
+pub up-two : Up Λ (2 ^ 64) 2 1
+up-two = up-weaken (bot-pos 25 (2 ^ 64) (lit< tt)) (leb→le (crown 24 Λ (2 ^ 64) * 1) (2 * bot 25 (2 ^ 64)) up-test) (up-crown 24 Λ (2 ^ 64) (lit< tt) (lit≤ tt))
+
+pub lo-two : Lo Λ (2 ^ 64) (2 * (2 ^ 63 - 1)) (2 ^ 63)
+lo-two = record { terms = 24; bound = leb→le (2 * (2 ^ 63 - 1) * bot 24 (2 ^ 64)) (top 24 Λ (2 ^ 64) * 2 ^ 63) lo-test }
+
+-- (1 - 1/Q)^k ≥ 1 - k/Q, for Q = P + 1 and k + m = Q
+pub bernoulli : (P k m : ℕ) → k + m ≡ suc P → suc P ^ k * m ≤ P ^ k * suc P
+bernoulli P zero m e = le-of-eq (ap (λ (x : ℕ). x * m) (pow-zero (suc P) ∙ sym (pow-zero P)) ∙ ap (λ (x : ℕ). P ^ zero * x) (sym (zero-add m) ∙ e))
+bernoulli P (suc k) m e =
+    le-trans (le-of-eq (ap (λ (x : ℕ). x * m) (pow-succ' (suc P) k) ∙ mul-assoc (suc P) (suc P ^ k) m ∙ mul-left-comm (suc P) (suc P ^ k) m))
+    (le-trans (mul-le-mul-left (suc P ^ k) (less P m (omega arith)))
+    (le-trans (le-of-eq (mul-left-comm (suc P ^ k) P (suc m)))
+    (le-trans (mul-le-mul-left P (bernoulli P k (suc m) (omega arith))) (le-of-eq (sym (mul-assoc P (P ^ k) (suc P)) ∙ ap (λ (x : ℕ). x * suc P) (sym (pow-succ' P k)))))))
+  where
+    less : (P m : ℕ) → m ≤ P → suc P * m ≤ P * suc m
+    less P m h = le-trans (le-of-eq (suc-mul P m)) (le-trans (add-le-add (le-refl (P * m)) h) (le-of-eq (sym (mul-suc P m))))

@@ -1,0 +1,2 @@
+pub mod Mantissa
+pub mod Exponential

@@ -1,0 +1,127 @@
+// The exponential in fixed point.
+ghost use mathlib.Core.Path.{_≡_};
+ghost use Prim.Native.Nat.{_+_, _*_, _/_, _%_, _^_, _≤_, _<_};
+ghost use lib.ListN.{getD};
+ghost use lib.Dec.{T};
+ghost use lib.Ieee.{binary64, ofBits, toUnsigned, le};
+ghost use lib.Ieee.Positive.{positive};
+ghost use Rattle.exact.specs.Float64.{_⊗_};
+ghost use Rattle.exponential.specs.Mantissa.{expTable, mantOf};
+ghost use Rattle.exponential.specs.Exponential.{placeOf, restOf, patternOf, expAbove, expOf, greatest, unit};
+use wide::mulhi;
+
+// e^(j / 32) in units of 2^-63, rounded down. A match, which LLVM makes a table of: a constant array is stored anew at each call.
+fn exp_tab(j: u64) -> u64
+    requires { ⌜ j < 23 ⌝ }
+    ensures { λ r. ⌜ r ≡ getD expTable j 0 ⌝ }
+{
+    match j {
+        0 => 0x8000000000000000,
+        1 => 0x84102b00893f64c7,
+        2 => 0x88415abbe9a76bea,
+        3 => 0x8c949b83a7066b44,
+        4 => 0x910b022db7ae67ce,
+        5 => 0x95a5ac59b963ca80,
+        6 => 0x9a65c0b85ac1a96a,
+        7 => 0x9f4c6f5508ee5d51,
+        8 => 0xa45af1e1f40c333b,
+        9 => 0xa9928c067d67bb65,
+        10 => 0xaef48bb022ffa9da,
+        11 => 0xb4824965fca1967e,
+        12 => 0xba3d289edf7b5311,
+        13 => 0xc026981a3daa2e5d,
+        14 => 0xc640123bd8007ee1,
+        15 => 0xcc8b1d6a58ee609b,
+        16 => 0xd3094c70f034de4b,
+        17 => 0xd9bc3ee407caf517,
+        18 => 0xe0a5a1892b223221,
+        19 => 0xe7c72ec23ac545bf,
+        20 => 0xef22aefc071e02e5,
+        21 => 0xf6b9f9206e0a0fc3,
+        _ => 0xfe8ef30c17c644e9,
+    }
+}
+
+// e^(r / 2^64) in units of 2^-62.
+pub fn mant(r: u64) -> u64
+    requires { ⌜ r < 23 * 2 ^ 59 ⌝ }
+    ensures { λ m. ⌜ m ≡ mantOf r ⌝ }
+{
+    let t = r & 0x7ff_ffff_ffff_ffff;
+    let q6 = 0x002d82d82d82d82d + mulhi(t, 0x0006806806806806);
+    let q5 = 0x0111111111111111 + mulhi(t, q6);
+    let q4 = 0x0555555555555555 + mulhi(t, q5);
+    let q3 = 0x1555555555555555 + mulhi(t, q4);
+    let q2 = 0x4000000000000000 + mulhi(t, q3);
+    let q1 = 0x8000000000000000 + mulhi(t, q2);
+    let p = mulhi(t, q1);
+    let b = exp_tab(r >> 59);
+    (b >> 1) + mulhi(b, p)
+}
+
+pub struct Power {
+    pub m: u64,
+    pub k: u64,
+}
+
+// e^(x / 2^53) is about m * 2^(k - 62).
+pub fn scaled(x: u64) -> Power
+    requires { ⌜ x ≤ 700 * 2 ^ 53 ⌝ }
+    ensures { λ s. ⌜ (s .m ≡ mantOf (restOf x)) × (s .k ≡ placeOf x) ⌝ }
+{
+    let k = x / 6243314768165360;
+    let r = (x - k * 6243314768165360) * 2048 + k * 1621;
+    let m = mant(r);
+    Power { m: m, k: k }
+}
+
+// The whole part of x * 2^53.
+fn fixed(x: f64) -> u64
+    requires { ⌜ T (positive x) × T (le x greatest) ⌝ }
+    ensures { λ r. ⌜ r ≡ toUnsigned 64 (x ⊗ unit) ⌝ }
+{
+    std::num::truncating_f64_to_u64(x * 9007199254740992.0)
+}
+
+// m * 2^(k - 62), cut to 53 digits.
+fn assembled(m: u64, k: u64) -> f64
+    requires { ⌜ (2 ^ 62 ≤ m) × (k ≤ 1010) ⌝ }
+    ensures { λ r. ⌜ r ≡ ofBits binary64 (patternOf m k) ⌝ }
+{
+    if m < 0x8000_0000_0000_0000 {
+        f64::from_bits((k + 1022) * 0x10_0000_0000_0000 + (m >> 10))
+    } else {
+        f64::from_bits((k + 1023) * 0x10_0000_0000_0000 + (m >> 11))
+    }
+}
+
+// e^x, for x above 0 and up to 700.
+fn exp_above(x: f64) -> f64
+    requires { ⌜ T (positive x) × T (le x greatest) ⌝ }
+    ensures { λ r. ⌜ r ≡ expAbove x ⌝ }
+{
+    let s = scaled(fixed(x));
+    assembled(s.m, s.k)
+}
+
+// e^x: +infinity above 700, 0 below -700, 1 at both zeros, NaN at NaN.
+pub fn exp(x: f64) -> f64
+    ensures { λ r. ⌜ r ≡ expOf x ⌝ }
+{
+    if x > 700.0 {
+        return 1.0 / 0.0;
+    }
+    if x < -700.0 {
+        return 0.0;
+    }
+    if x > 0.0 {
+        return exp_above(x);
+    }
+    if x < 0.0 {
+        return 1.0 / exp_above(-x);
+    }
+    if x == 0.0 {
+        return 1.0;
+    }
+    0.0 / 0.0
+}

@@ -1,0 +1,14 @@
+use Rattle.level1.specs.Threshold.{bodyPotentialOf}
+use borrow.Author.Needs.{needs}
+use Rattle.level1.proofs.channel.body_potential.Statement.{statement}
+use Rattle.level1.proofs.channel.body_potential.Tie as tie
+
+max-requires : tie.Need-max-requires
+max-requires c κs = search needs
+
+returns : tie.Need-returns
+unfolding bodyPotentialOf
+returns c = cc
+
+pub body-potential-spec : {M : Type 1} → statement M
+body-potential-spec = tie.close (tie.spec max-requires returns)

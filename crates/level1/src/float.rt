@@ -1,0 +1,47 @@
+// The methods of Rust's f64 that the model calls.
+ghost use mathlib.Core.Path.{_≡_};
+ghost use Rattle.exact.specs.Float64.{absolute, signum, maximum};
+
+pub fn abs(x: f64) -> f64
+    ensures { λ r. ⌜ r ≡ absolute x ⌝ }
+{
+    if x < 0.0 {
+        return -x;
+    }
+    if x == 0.0 {
+        if 1.0 / x < 0.0 {
+            return -x;
+        }
+    }
+    x
+}
+
+pub fn signum(x: f64) -> f64
+    ensures { λ r. ⌜ r ≡ signum x ⌝ }
+{
+    if x < 0.0 {
+        return -1.0;
+    }
+    if x > 0.0 {
+        return 1.0;
+    }
+    if x != x {
+        return x;
+    }
+    if 1.0 / x < 0.0 {
+        return -1.0;
+    }
+    1.0
+}
+
+pub fn max(x: f64, y: f64) -> f64
+    ensures { λ r. ⌜ r ≡ maximum x y ⌝ }
+{
+    if x < y {
+        return y;
+    }
+    if x != x {
+        return y;
+    }
+    x
+}

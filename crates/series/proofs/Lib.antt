@@ -1,0 +1,15 @@
+pub mod Sums
+pub mod Product
+pub mod Bounds
+pub mod Tail
+pub mod Scaling
+pub mod Differences
+pub mod Quotients
+pub mod AtFractions
+pub mod Order
+pub mod Alike
+pub mod TailLaws
+pub mod ProductLaws
+pub mod SmallArguments
+pub mod Shifts
+pub mod Sizes

@@ -1,0 +1,1 @@
+// The partial sums of the exponential series at exact fractions: definitions and laws only, no function.

@@ -1,0 +1,183 @@
+// Scaling at a temperature and binding to nodes (the Rust's `setup_model`, `setup_instance`, `num_extra_nodes` and
+// `bind_extra_nodes` of mosfet1.rs).
+ghost use mathlib.Core.Path.{_≡_};
+ghost use Prim.Native.Nat.{_+_, _<_, _^_};
+ghost use Rattle.setup.specs.Binding.{
+  extra,
+  extraNodes,
+  innerDrain,
+  innerSource,
+  terminalsOf,
+  beyond,
+  anyBeyond,
+  outsideBinding,
+  boundTo,
+  bindingOf,
+};
+use device::Mosfet1;
+use device::NodeId;
+use device::Stage;
+use device::Terminals;
+
+// The device after a scaling or a binding, or the number of the refusal.
+pub enum SetupAnswer {
+    Done(Mosfet1),
+    Refused(u8),
+}
+
+// A series resistance above 0 has a node of its own.
+fn extra(resistance: f64) -> usize
+    ensures { λ r. ⌜ r ≡ extra resistance ⌝ }
+{
+    if resistance > 0.0 { 1 } else { 0 }
+}
+
+// How many nodes beyond the four terminals the device asks for.
+pub fn num_extra_nodes(device: Mosfet1) -> usize
+    ensures { λ r. ⌜ r ≡ extraNodes (device .geometry) ⌝ }
+{
+    let rd = device.geometry.rd;
+    let rs = device.geometry.rs;
+    extra(rd) + extra(rs)
+}
+
+// The node behind the drain's resistance, the first of the extra ones.
+fn inner_drain(rd: f64, drain: NodeId, first: usize) -> NodeId
+    ensures { λ r. ⌜ r ≡ innerDrain rd drain first ⌝ }
+{
+    if rd > 0.0 { NodeId::At(first) } else { drain }
+}
+
+// The node behind the source's resistance, after the drain's.
+fn inner_source(rd: f64, rs: f64, source: NodeId, first: usize) -> NodeId
+    requires { ⌜ first + extra rd < 2 ^ 64 ⌝ }
+    ensures { λ r. ⌜ r ≡ innerSource rd rs source first ⌝ }
+{
+    let at = first + extra(rd);
+    if rs > 0.0 { NodeId::At(at) } else { source }
+}
+
+// The six nodes of a binding.
+fn terminals(
+    rd: f64,
+    rs: f64,
+    drain: NodeId,
+    gate: NodeId,
+    source: NodeId,
+    bulk: NodeId,
+    first: usize,
+) -> Terminals
+    requires { ⌜ first + extra rd < 2 ^ 64 ⌝ }
+    ensures { λ r. ⌜ r ≡ terminalsOf rd rs drain gate source bulk first ⌝ }
+{
+    let inner_d = inner_drain(rd, drain, first);
+    let inner_s = inner_source(rd, rs, source, first);
+    Terminals {
+        drain_ext: drain,
+        source_ext: source,
+        drain: inner_d,
+        gate,
+        source: inner_s,
+        bulk,
+    }
+}
+
+// Whether a node's number is above 2^32 - 1.
+fn beyond(node: NodeId) -> bool
+    ensures { λ r. ⌜ r ≡ beyond node ⌝ }
+{
+    match node {
+        NodeId::Ground => false,
+        NodeId::At(n) => 4294967295 < n,
+    }
+}
+
+fn any_beyond(t: Terminals) -> bool
+    ensures { λ r. ⌜ r ≡ anyBeyond t ⌝ }
+{
+    let drain = t.drain;
+    if beyond(drain) {
+        return true;
+    }
+    let source = t.source;
+    if beyond(source) {
+        return true;
+    }
+    let gate = t.gate;
+    if beyond(gate) {
+        return true;
+    }
+    let bulk = t.bulk;
+    if beyond(bulk) {
+        return true;
+    }
+    let drain_ext = t.drain_ext;
+    if beyond(drain_ext) {
+        return true;
+    }
+    let source_ext = t.source_ext;
+    beyond(source_ext)
+}
+
+// The device with its terminals, ready for evaluation.
+fn bound(device: Mosfet1, terminals: Terminals) -> Mosfet1
+    ensures { λ r. ⌜ r ≡ boundTo device terminals ⌝ }
+{
+    let card = device.card;
+    let geometry = device.geometry;
+    let scaled = device.scaled;
+    let point = device.point;
+    let charges = device.charges;
+    let histories = device.histories;
+    let disc = device.disc;
+    let stage = Stage::Bound;
+    Mosfet1 {
+        card,
+        geometry,
+        scaled,
+        terminals,
+        point,
+        charges,
+        histories,
+        disc,
+        stage,
+    }
+}
+
+// Whether a binding comes too early or too late.
+fn outside_binding(stage: Stage) -> bool
+    ensures { λ r. ⌜ r ≡ outsideBinding stage ⌝ }
+{
+    if device::before(stage, Stage::Scaled) {
+        return true;
+    }
+    device::before(Stage::Bound, stage)
+}
+
+// Binds the drain, gate, source and bulk, and the extra nodes from `first` on.
+pub fn setup_instance(
+    device: Mosfet1,
+    drain: NodeId,
+    gate: NodeId,
+    source: NodeId,
+    bulk: NodeId,
+    first: usize,
+) -> SetupAnswer
+    ensures { λ r. ⌜ r ≡ bindingOf device drain gate source bulk first ⌝ }
+{
+    let rd = device.geometry.rd;
+    let rs = device.geometry.rs;
+    // The internal drain first: with its number small the next one is a number too.
+    if beyond(inner_drain(rd, drain, first)) {
+        return SetupAnswer::Refused(8);
+    }
+    let terminals = terminals(rd, rs, drain, gate, source, bulk, first);
+    if any_beyond(terminals) {
+        return SetupAnswer::Refused(8);
+    }
+    let stage = device.stage;
+    if outside_binding(stage) {
+        return SetupAnswer::Refused(10);
+    }
+    SetupAnswer::Done(bound(device, terminals))
+}
