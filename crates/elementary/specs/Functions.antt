@@ -1,17 +1,31 @@
--- The elementary functions.
+-- The elementary functions by the names that the layers above use: each is the definition of the crate that holds it.
 use lib.Ieee.{Float}
+pub use Rattle.logarithm.specs.declared.Log.{Log}
 
-unfoldable pub sqrtOf : Float → Float
-sqrtOf x = x
+-- √x, correctly rounded
+abbrev pub sqrtOf : Float → Float
+sqrtOf x = Rattle.square_root.specs.SquareRoot.sqrtOf x
 
-unfoldable pub expOf : Float → Float
-expOf x = x
+-- e^x
+abbrev pub expOf : Float → Float
+expOf x = Rattle.exponential.specs.Exponential.expOf x
 
-unfoldable pub lnOf : Float → Float
-lnOf x = x
+-- ln x
+abbrev pub lnOf : Float → Float
+lnOf x = Rattle.logarithm.specs.Logarithm.lnOf x
 
-unfoldable pub ln1pOf : Float → Float
-ln1pOf x = x
+-- ln(1 + a)
+abbrev pub ln1pOf : Float → Float
+ln1pOf a = Rattle.logarithm.specs.Logarithm.ln1pOf a
 
-unfoldable pub powOf : Float → Float → Float
-powOf x y = x
+-- the logarithm of a base, kept for several exponents
+abbrev pub logOf : Float → Log
+logOf b = Rattle.logarithm.specs.Logarithm.logOf b
+
+-- the power of the base whose logarithm is l
+abbrev pub powFrom : Log → Float → Float
+powFrom l p = Rattle.power.specs.Power.powFrom l p
+
+-- b^p
+abbrev pub powOf : Float → Float → Float
+powOf b p = Rattle.power.specs.Power.powOf b p

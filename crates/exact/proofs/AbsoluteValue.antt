@@ -1,14 +1,14 @@
 -- The absolute value of an exact fraction: against its number, in sums and products, and where it is above 0.
-use Prim.Native.Nat.{ℕ, zero, suc, _+_, _-_, _*_, _≤_, _<_}
-use mathlib.Core.Path.{_≡_, refl, ap}
+use Prim.Native.Nat.{ℕ, _+_, _-_, _*_, _≤_}
+use mathlib.Core.Path.{_≡_, ap}
 use mathlib.Core.Logic.{_⊎_, inl, inr}
 use mathlib.Core.List.{List, [], _∷_}
 use native.Mathlib.Nat.{mul-le-mul-right}
 use native.Mathlib.Omega.{arith, sub-cases}
-use Rattle.exact.specs.Fraction.{ℚ, nat, _+q_, negq, _-q_, _*q_, absq, _≤q_, _<q_, _≈q_}
-use Rattle.exact.proofs.FractionLaws.{≈-refl, ≈-sym, ≈-trans, *-comm, *-cong, ≤-of-≈, ≤-refl, ≤-trans, ≤-antisym, *-mono, neg-cong, neg-mono}
-use Rattle.exact.proofs.FractionProver.{QE, qv, ##, _÷_, _⊞_, _⊟_, _⊠_, ⊝, leq, req, linq, _⊑_by_}
-use Rattle.exact.proofs.StrictOrder.{≤-of-<, ≤-or-≤, <-of-≤-not-≈, <-of-not-≤, not-≤-of-<, not-≈-of->, <-≤-trans, *-nonneg}
+use Rattle.exact.specs.Fraction.{ℚ, nat, negq, _*q_, absq, _≤q_, _<q_, _≈q_}
+use Rattle.exact.proofs.FractionLaws.{≈-sym, ≈-trans, *-cong, ≤-of-≈, ≤-refl, ≤-trans, ≤-antisym, *-mono, neg-cong}
+use Rattle.exact.proofs.FractionProver.{qv, ##, _⊠_, ⊝, req, linq, _⊑_by_}
+use Rattle.exact.proofs.StrictOrder.{≤-or-≤, <-of-≤-not-≈, not-≤-of-<, not-≈-of->, *-nonneg}
 
 -- ---- |x| is the larger of x and -x
 pub le-abs : (x : ℚ) → x ≤q absq x

@@ -1,14 +1,11 @@
 -- Closeness: |x - y| ≤ e, and how it composes.
-use Prim.Native.Nat.{ℕ, zero, suc, _+_, _-_, _*_, _≤_, _<_, zero-le}
-use mathlib.Core.Path.{_≡_, refl, ap}
-use mathlib.Core.List.{List, [], _∷_}
-use native.Mathlib.Nat.{mul-le-mul-right, le-trans, le-of-eq}
-use native.Mathlib.Omega.{arith, sub-cases}
-use lib.Dec.{T}
-use Rattle.exact.specs.Fraction.{ℚ, _//_, nat, _+q_, negq, _-q_, _*q_, absq, _≤q_, _≈q_, Within}
+use mathlib.Core.List.{[], _∷_}
+use Rattle.exact.specs.Fraction.{ℚ, nat, _+q_, negq, _-q_, _*q_, absq, maxq, _≤q_, _≈q_, Within}
 pub use Rattle.exact.proofs.AbsoluteValue.{le-abs, neg-le-abs, abs-nonneg, abs-le}
-use Rattle.exact.proofs.FractionLaws.{≈-refl, ≈-sym, ≈-trans, *-comm, ≤-of-≈, ≤-refl, ≤-trans, +-mono, *-mono, neg-mono}
-use Rattle.exact.proofs.FractionProver.{QE, qv, ##, _÷_, _⊞_, _⊟_, _⊠_, ⊝, leq, linq, _⊑_by_}
+use Rattle.exact.proofs.AbsoluteValue.{abs-neg}
+use Rattle.exact.proofs.Maximum.{max-by, ≤-max-l, ≤-max-r}
+use Rattle.exact.proofs.FractionLaws.{≈-sym, *-comm, ≤-of-≈, ≤-refl, ≤-trans, *-mono}
+use Rattle.exact.proofs.FractionProver.{qv, ##, _⊞_, _⊟_, _⊠_, ⊝, leq, linq, _⊑_by_}
 
 -- ---- |x - y| ≤ e, as one fact
 pub within-abs : {x y e : ℚ} → absq (x -q y) ≤q e → Within x y e
@@ -42,6 +39,20 @@ within-+ {x} {y} {z} {w} {e} {f} a b =
       above = linq ρ ((qv 0 ⊟ qv 1 ⊑ qv 4 by 1) ∷ (qv 2 ⊟ qv 3 ⊑ qv 5 by 1) ∷ []) 0 (qv 0 ⊞ qv 2 ⊟ (qv 1 ⊞ qv 3)) (qv 4 ⊞ qv 5) tt (a .above) (b .above);
       below = linq ρ ((qv 1 ⊟ qv 0 ⊑ qv 4 by 1) ∷ (qv 3 ⊟ qv 2 ⊑ qv 5 by 1) ∷ []) 0 (qv 1 ⊞ qv 3 ⊟ (qv 0 ⊞ qv 2)) (qv 4 ⊞ qv 5) tt (a .below) (b .below);
     }
+
+pub within-neg : {x y e : ℚ} → Within x y e → Within (negq x) (negq y) e
+within-neg {x} {y} {e} w = let ρ = x ∷ y ∷ e ∷ [] in record {
+  above = linq ρ ((qv 1 ⊟ qv 0 ⊑ qv 2 by 1) ∷ []) 0 (⊝ (qv 0) ⊟ ⊝ (qv 1)) (qv 2) tt (w .below);
+  below = linq ρ ((qv 0 ⊟ qv 1 ⊑ qv 2 by 1) ∷ []) 0 (⊝ (qv 1) ⊟ ⊝ (qv 0)) (qv 2) tt (w .above);
+}
+
+pub within-minus : {x y z w e f : ℚ} → Within x y e → Within z w f → Within (x -q z) (y -q w) (e +q f)
+unfolding _-q_
+within-minus a b = within-+ a (within-neg b)
+
+-- an error is not negative
+pub within-nonneg : {x y e : ℚ} → Within x y e → nat 0 ≤q e
+within-nonneg {x} {y} {e} h = linq (x ∷ y ∷ e ∷ []) ((qv 0 ⊟ qv 1 ⊑ qv 2 by 1) ∷ (qv 1 ⊟ qv 0 ⊑ qv 2 by 1) ∷ []) 1 (## 0) (qv 2) tt (h .above) (h .below)
 
 -- c (b - a) ≤ |c| e for |b - a| ≤ e: both signs of c
 pub mul-within : (c : ℚ) {x y e : ℚ} → Within x y e → Within (c *q x) (c *q y) (absq c *q e)
@@ -101,3 +112,24 @@ abs-+-le x y {a} {b} f g = let ρ = x ∷ y ∷ a ∷ b ∷ absq x ∷ absq y �
     abs-le
     (linq ρ ((qv 0 ⊑ qv 4 by 1) ∷ (qv 4 ⊑ qv 2 by 1) ∷ (qv 1 ⊑ qv 5 by 1) ∷ (qv 5 ⊑ qv 3 by 1) ∷ []) 0 (qv 0 ⊞ qv 1) (qv 2 ⊞ qv 3) tt (le-abs x) f (le-abs y) g)
     (linq ρ ((⊝ (qv 0) ⊑ qv 4 by 1) ∷ (qv 4 ⊑ qv 2 by 1) ∷ (⊝ (qv 1) ⊑ qv 5 by 1) ∷ (qv 5 ⊑ qv 3 by 1) ∷ []) 0 (⊝ (qv 0 ⊞ qv 1)) (qv 2 ⊞ qv 3) tt (neg-le-abs x) f (neg-le-abs y) g)
+
+pub abs-minus-le : (x y : ℚ) {a b : ℚ} → absq x ≤q a → absq y ≤q b → absq (x -q y) ≤q a +q b
+unfolding _-q_
+abs-minus-le x y f g = abs-+-le x (negq y) f (≤-trans (≤-of-≈ (abs-neg y)) g)
+
+-- ---- | |x| - |y| | ≤ |x - y|
+pub within-abs-abs : {x y e : ℚ} → Within x y e → Within (absq x) (absq y) e
+within-abs-abs {x} {y} {e} w = let ρ = absq x ∷ absq y ∷ e ∷ [] in record {
+  above = linq ρ ((qv 0 ⊑ qv 1 ⊞ qv 2 by 1) ∷ []) 0 (qv 0 ⊟ qv 1) (qv 2) tt (abs-of-within w (≤-refl (absq y)));
+  below = linq ρ ((qv 1 ⊑ qv 0 ⊞ qv 2 by 1) ∷ []) 0 (qv 1 ⊟ qv 0) (qv 2) tt (abs-of-within (within-sym w) (≤-refl (absq x)));
+}
+
+-- ---- two maxima
+max-shift : (x y z w : ℚ) {e f : ℚ} → x -q z ≤q e → y -q w ≤q f → maxq x y -q maxq z w ≤q maxq e f
+max-shift x y z w {e} {f} a b =
+    max-by (λ v. v -q maxq z w ≤q maxq e f) x y
+    (λ h. linq (y ∷ w ∷ f ∷ maxq z w ∷ maxq e f ∷ []) ((qv 0 ⊟ qv 1 ⊑ qv 2 by 1) ∷ (qv 1 ⊑ qv 3 by 1) ∷ (qv 2 ⊑ qv 4 by 1) ∷ []) 0 (qv 0 ⊟ qv 3) (qv 4) tt b (≤-max-r z w) (≤-max-r e f))
+    (λ h. linq (x ∷ z ∷ e ∷ maxq z w ∷ maxq e f ∷ []) ((qv 0 ⊟ qv 1 ⊑ qv 2 by 1) ∷ (qv 1 ⊑ qv 3 by 1) ∷ (qv 2 ⊑ qv 4 by 1) ∷ []) 0 (qv 0 ⊟ qv 3) (qv 4) tt a (≤-max-l z w) (≤-max-l e f))
+
+pub within-max : {x y z w e f : ℚ} → Within x z e → Within y w f → Within (maxq x y) (maxq z w) (maxq e f)
+within-max {x} {y} {z} {w} a b = record { above = max-shift x y z w (a .above) (b .above); below = max-shift z w x y (a .below) (b .below) }

@@ -1,18 +1,17 @@
 -- What a comparison of two finite floats says of their exact values, both ways: `lt` is <, `le` is ≤, `eq` is being the same number, and so their negations.
-use Prim.Native.Nat.{ℕ, zero, suc, _+_, _*_, _^_, _≤_, _<_}
-use mathlib.Core.Path.{_≡_, refl, sym, ap, subst}
+use Prim.Native.Nat.{ℕ, _+_, _*_, _<_}
+use mathlib.Core.Path.{_≡_}
 use mathlib.Core.Logic.{_⊎_, inl, inr}
 use mathlib.Core.Bool.{Bool, true, false, not, _&&_, _||_, Bool·beq}
-use native.Mathlib.Nat.{le-of-lt, le-of-eq, le-trans}
 use native.Mathlib.Omega.{arith}
-use lib.Dec.{T, ltb, leb, eqb, ltb→lt, nltb→le, eqb→eq, leb→le, le→leb, T-not, not-T}
+use lib.Dec.{T, eqb, ltb→lt, nltb→le, eqb→eq, T-not, not-T}
 use lib.Ieee.{Float, nan, inf, fin, up, down, lt, le, eq, ne, below, level}
 use lib.Ieee.Fits.{down-pos, and-i, and-l, eq→eqb}
 use lib.Ieee.Scale.{finite}
-use Rattle.exact.specs.Fraction.{ℚ, nat, _≤q_, _<q_, _≈q_}
+use Rattle.exact.specs.Fraction.{_≤q_, _<q_, _≈q_}
 use Rattle.exact.specs.FloatValue.{signed, value}
-use Rattle.exact.proofs.FractionLaws.{≤-of-≈, ≤-trans}
-use Rattle.exact.proofs.StrictOrder.{≤-of-<, not-≤-of-<, <-of-not-≤, <-of-≤-not-≈, ≤-or-<, not-≈-of-<}
+use Rattle.exact.proofs.FractionLaws.{≤-of-≈}
+use Rattle.exact.proofs.StrictOrder.{≤-of-<, not-≤-of-<, <-of-not-≤}
 
 -- ---- truth values
 by-contradiction : (b : Bool) → (T (not b) → ⊥) → T b

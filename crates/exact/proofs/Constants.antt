@@ -2,13 +2,13 @@
 --     half : value (ofBits binary64 0x3fe0_0000_0000_0000) ≈q 1 // 2
 --     unfolding constant-test
 --     half = constant-is 0x3fe0_0000_0000_0000 (1 // 2) tt
-use Prim.Native.Nat.{ℕ, _+_, _*_, _^_, _≤_, _<_}
+use Prim.Native.Nat.{ℕ}
 use mathlib.Core.Bool.{Bool, _&&_}
 use lib.Dec.{T}
-use lib.Ieee.{Float, nan, inf, fin, binary64, ofBits, fits}
+use lib.Ieee.{binary64, ofBits, fits}
 use lib.Ieee.Bits.{ofBits-fits}
 use lib.Ieee.Scale.{finite}
-use Rattle.exact.specs.Fraction.{ℚ, _//_, nat, negq, _≤q_, _≈q_, leqb}
+use Rattle.exact.specs.Fraction.{ℚ, _//_, nat, negq, _≈q_, leqb}
 use Rattle.exact.specs.FloatValue.{value}
 use Rattle.exact.specs.Float64.{+0, +1, -1}
 use Rattle.exact.proofs.NatProver.{and-l, and-r}
@@ -43,19 +43,6 @@ pub value-+1 : value +1 ≈q nat 1
 unfolding constant-test
 value-+1 = constant-is 0x3ff0_0000_0000_0000 (nat 1) tt
 
-pub value--1 : value -1 ≈q negq (nat 1)
+pub value-minus-1 : value -1 ≈q negq (nat 1)
 unfolding constant-test
-value--1 = constant-is 0xbff0_0000_0000_0000 (negq (nat 1)) tt
-
--- ---- others, as examples
-one-and-a-half : value (ofBits binary64 0x3ff8_0000_0000_0000) ≈q 3 // 2
-unfolding constant-test
-one-and-a-half = constant-is 0x3ff8_0000_0000_0000 (3 // 2) tt
-
-a-tenth : value (ofBits binary64 0x3fb9_9999_9999_999a) ≈q 3602879701896397 // 36028797018963968
-unfolding constant-test
-a-tenth = constant-is 0x3fb9_9999_9999_999a (3602879701896397 // 36028797018963968) tt
-
-least-normal : value (ofBits binary64 0x0010_0000_0000_0000) ≈q 1 // 2 ^ 1022
-unfolding constant-test
-least-normal = constant-is 0x0010_0000_0000_0000 (1 // 2 ^ 1022) tt
+value-minus-1 = constant-is 0xbff0_0000_0000_0000 (negq (nat 1)) tt

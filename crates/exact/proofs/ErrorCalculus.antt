@@ -1,17 +1,26 @@
--- A forward error analysis, step by step: `Est x z B e` says that x is finite, that the exact value z that it stands for is at most B in size, and that x is at most e away from z.
-use Prim.Native.Nat.{ℕ, suc, _+_, _^_, _≤_, zero-le}
-use mathlib.Core.Path.{_≡_, sym}
-use native.Mathlib.Numerals.{add-one}
-use mathlib.Core.List.{List, [], _∷_}
+-- A forward error analysis, step by step. `Est f x z B e` says that x is finite, that the exact value z that it stands for is at most B in size, and that x is at most e away from z.
+-- A law for each operation, with its bounds as formulas; at the end the same for binary64 with closed bounds, where one test computes: `est-⊗ X Y B e tt`.
+use Prim.Native.Nat.{ℕ, _^_}
+use mathlib.Core.Bool.{Bool, _&&_}
+use mathlib.Core.List.{[], _∷_}
 use lib.Dec.{T}
-use lib.Ieee.{Float, Format, binary64, emax, prec, add, sub, mul, fits}
+use lib.IntN.{ℤ}
+use lib.Ieee.{Float, Format, binary64, emax, prec, neg, add, sub, mul, div, fits, ofBits}
 use lib.Ieee.Scale.{finite}
-use Rattle.exact.specs.Fraction.{ℚ, _//_, nat, _+q_, negq, _-q_, _*q_, absq, _≤q_, _≈q_, Within, leqb}
-use Rattle.exact.specs.FloatValue.{value, eps, tiny, err}
-use Rattle.exact.proofs.FractionLaws.{≈-refl, ≈-sym, ≈-trans, *-cong, nat-+, ≤-trans, ≤-refl, ≤-of-≈, *-mono, +-mono, *-comm, lit-≤}
-use Rattle.exact.proofs.FractionProver.{QE, qv, ##, _÷_, _⊞_, _⊟_, _⊠_, ⊝, leq, linq, _⊑_by_, nat-≤, nat-≡}
-use Rattle.exact.proofs.Closeness.{abs-*-le, abs-+-le, abs-of-within, abs-within, abs-nonneg, within-refl, within-trans, within-+, within-*, within-mono, within-≈, *-mono₂, le-abs, neg-le-abs, abs-le}
-use Rattle.exact.proofs.Rounding.{Rounded, near, finite-of, mul-rounded, add-rounded, sub-rounded, frac-nonneg, add-near}
+use Rattle.exact.specs.Fraction.{ℚ, _//_, nat, _+q_, negq, _-q_, _*q_, _/q_, absq, maxq, _≤q_, _<q_, _≈q_, Within, leqb, ltqb}
+use Rattle.exact.specs.FloatValue.{value, eps, tiny}
+use Rattle.exact.specs.Float64.{_⊕_, _⊖_, _⊗_, _⊘_, absolute, maximum}
+use Rattle.exact.specs.Size.{exp2, AtMost}
+use Rattle.exact.proofs.NatProver.{and-l, and-r}
+use Rattle.exact.proofs.FractionLaws.{≈-refl, ≈-sym, ≤-of-≈, ≤-refl, ≤-trans, +-mono, *-mono, lit-≤}
+use Rattle.exact.proofs.FractionProver.{qv, ##, _⊞_, _⊟_, linq, _⊑_by_}
+use Rattle.exact.proofs.StrictOrder.{<-≤-trans, lit-<}
+use Rattle.exact.proofs.AbsoluteValue.{abs-nonneg, abs-cong, abs-neg, abs-abs, not-zero-of-abs}
+use Rattle.exact.proofs.Maximum.{max-by, ≤-max-l, ≤-max-r}
+use Rattle.exact.proofs.Closeness.{abs-*-le, abs-+-le, abs-minus-le, abs-of-within, within-refl, within-sym, within-trans, within-+, within-minus, within-*, within-mono, within-≈, within-nonneg, within-abs-abs, within-max, *-mono₂}
+use Rattle.exact.proofs.FractionDivision.{abs-div-le, within-div}
+use Rattle.exact.proofs.Rounding.{Rounded, OnGrid, near, near-grid, finite-of, mul-rounded, add-rounded, sub-rounded, div-rounded-q, frac-nonneg, fits-grid, grid-+, grid-minus, value-neg, neg-finite, within-neg}
+use Rattle.exact.proofs.FloatFunctions.{absolute-finite, value-absolute, maximum-finite, value-maximum}
 
 pub record Est (f : Format) (x : Float) (z B e : ℚ) : Type 0 where
   pub fin : T (finite x)
@@ -24,13 +33,19 @@ est-size E = abs-of-within (E .close) (E .size)
 pub weaken : {f : Format} {x : Float} {z B e C g : ℚ} → Est f x z B e → B ≤q C → e ≤q g → Est f x z C g
 weaken E b e = record { fin = E .fin; size = ≤-trans (E .size) b; close = within-mono (E .close) e }
 
+pub est-≈ : {f : Format} {x : Float} {z w B e : ℚ} → Est f x z B e → z ≈q w → Est f x w B e
+est-≈ {x = x} E h = record { fin = E .fin; size = ≤-trans (≤-of-≈ (abs-cong (≈-sym h))) (E .size); close = within-≈ (≈-refl (value x)) h (E .close) }
+
 -- a value that is given
 pub given : (f : Format) (x : Float) {B : ℚ} → T (finite x) → absq (value x) ≤q B → Est f x (value x) B (nat 0)
 given f x t h = record { fin = t; size = h; close = within-refl (value x) }
 
--- a result: what is rounded is at most M in size, and at most d away from z
-step : (f : Format) (r : Float) (y z B M d : ℚ) → Rounded f r y → absq z ≤q B → absq y ≤q M → M ≤q nat (2 ^ emax f) → Within y z d → Est f r z B (eps f *q M +q tiny f +q d)
-step f r y z B M d R b m l w =
+pub given-atMost : {x : Float} {a : ℤ} → AtMost x a → Est binary64 x (value x) (exp2 a) (nat 0)
+given-atMost {x} X = given binary64 x (X .fin) (X .size)
+
+-- ---- a result: what is rounded, y, is at most M in size, and at most d away from z
+pub est-rounded : (f : Format) (r : Float) (y z B M d : ℚ) → Rounded f r y → absq z ≤q B → absq y ≤q M → M ≤q nat (2 ^ emax f) → Within y z d → Est f r z B (eps f *q M +q tiny f +q d)
+est-rounded f r y z B M d R b m l w =
     let t = finite-of f r y R (≤-trans m l) in
     record {
       fin = t;
@@ -38,84 +53,149 @@ step f r y z B M d R b m l w =
       close = within-trans (within-mono (near f r y R t) (+-mono (*-mono (frac-nonneg 1 (2 ^ prec f)) m) (≤-refl (tiny f)))) w;
     }
 
+-- and a whole number of the format's smallest values: with no `tiny`
+pub est-rounded-grid : (f : Format) (r : Float) (y z B M d : ℚ) → Rounded f r y → OnGrid f y → absq z ≤q B → absq y ≤q M → M ≤q nat (2 ^ emax f) → Within y z d → Est f r z B (eps f *q M +q d)
+est-rounded-grid f r y z B M d R g b m l w =
+    let t = finite-of f r y R (≤-trans m l) in
+    record {
+      fin = t;
+      size = b;
+      close = within-trans (within-mono (near-grid f r y R g t) (*-mono (frac-nonneg 1 (2 ^ prec f)) m)) w;
+    }
+
+-- ---- the operations
 module _ (f : Format) {x y : Float} {z w B C e g : ℚ} (X : Est f x z B e) (Y : Est f y w C g) where
   pub est-add : (B +q e) +q (C +q g) ≤q nat (2 ^ emax f) → Est f (add f x y) (z +q w) (B +q C) (eps f *q ((B +q e) +q (C +q g)) +q tiny f +q (e +q g))
   est-add l =
-      step f (add f x y) (value x +q value y) (z +q w) (B +q C) ((B +q e) +q (C +q g)) (e +q g) (add-rounded f x y (X .fin) (Y .fin))
+      est-rounded f (add f x y) (value x +q value y) (z +q w) (B +q C) ((B +q e) +q (C +q g)) (e +q g) (add-rounded f x y (X .fin) (Y .fin))
       (abs-+-le z w (X .size) (Y .size)) (abs-+-le (value x) (value y) (est-size X) (est-size Y)) l (within-+ (X .close) (Y .close))
+
+  pub est-sub : (B +q e) +q (C +q g) ≤q nat (2 ^ emax f) → Est f (sub f x y) (z -q w) (B +q C) (eps f *q ((B +q e) +q (C +q g)) +q tiny f +q (e +q g))
+  est-sub l =
+      est-rounded f (sub f x y) (value x -q value y) (z -q w) (B +q C) ((B +q e) +q (C +q g)) (e +q g) (sub-rounded f x y (X .fin) (Y .fin))
+      (abs-minus-le z w (X .size) (Y .size)) (abs-minus-le (value x) (value y) (est-size X) (est-size Y)) l (within-minus (X .close) (Y .close))
 
   -- of two values that the format holds, with no `tiny`
   pub est-add-fits : T (fits f x) → T (fits f y) → (B +q e) +q (C +q g) ≤q nat (2 ^ emax f) → Est f (add f x y) (z +q w) (B +q C) (eps f *q ((B +q e) +q (C +q g)) +q (e +q g))
   est-add-fits a b l =
-      let m = abs-+-le (value x) (value y) (est-size X) (est-size Y) in
-      let t = finite-of f (add f x y) (value x +q value y) (add-rounded f x y (X .fin) (Y .fin)) (≤-trans m l) in
-      record {
-        fin = t;
-        size = abs-+-le z w (X .size) (Y .size);
-        close = within-trans (within-mono (add-near f x y (X .fin) (Y .fin) a b t) (*-mono (frac-nonneg 1 (2 ^ prec f)) m)) (within-+ (X .close) (Y .close));
-      }
+      est-rounded-grid f (add f x y) (value x +q value y) (z +q w) (B +q C) ((B +q e) +q (C +q g)) (e +q g) (add-rounded f x y (X .fin) (Y .fin)) (grid-+ (fits-grid f x (X .fin) a) (fits-grid f y (Y .fin) b))
+      (abs-+-le z w (X .size) (Y .size)) (abs-+-le (value x) (value y) (est-size X) (est-size Y)) l (within-+ (X .close) (Y .close))
 
-  nonneg : (u : ℚ) {v d : ℚ} → Within u v d → nat 0 ≤q d
-  nonneg u {v} {d} h = linq (u ∷ v ∷ d ∷ []) ((qv 0 ⊟ qv 1 ⊑ qv 2 by 1) ∷ (qv 1 ⊟ qv 0 ⊑ qv 2 by 1) ∷ []) 1 (## 0) (qv 2) tt (h .above) (h .below)
+  pub est-sub-fits : T (fits f x) → T (fits f y) → (B +q e) +q (C +q g) ≤q nat (2 ^ emax f) → Est f (sub f x y) (z -q w) (B +q C) (eps f *q ((B +q e) +q (C +q g)) +q (e +q g))
+  est-sub-fits a b l =
+      est-rounded-grid f (sub f x y) (value x -q value y) (z -q w) (B +q C) ((B +q e) +q (C +q g)) (e +q g) (sub-rounded f x y (X .fin) (Y .fin)) (grid-minus (fits-grid f x (X .fin) a) (fits-grid f y (Y .fin) b))
+      (abs-minus-le z w (X .size) (Y .size)) (abs-minus-le (value x) (value y) (est-size X) (est-size Y)) l (within-minus (X .close) (Y .close))
 
   pub est-mul : (B +q e) *q (C +q g) ≤q nat (2 ^ emax f) → Est f (mul f x y) (z *q w) (B *q C) (eps f *q ((B +q e) *q (C +q g)) +q tiny f +q ((B +q e) *q g +q C *q e))
   est-mul l =
-      step f (mul f x y) (value x *q value y) (z *q w) (B *q C) ((B +q e) *q (C +q g)) ((B +q e) *q g +q C *q e) (mul-rounded f x y (X .fin) (Y .fin))
+      est-rounded f (mul f x y) (value x *q value y) (z *q w) (B *q C) ((B +q e) *q (C +q g)) ((B +q e) *q g +q C *q e) (mul-rounded f x y (X .fin) (Y .fin))
       (abs-*-le z w (X .size) (Y .size)) (abs-*-le (value x) (value y) (est-size X) (est-size Y)) l
       (within-mono (within-* (X .close) (Y .close))
-      (+-mono (*-mono₂ (abs-nonneg (value x)) (nonneg (value y) (Y .close)) (est-size X) (≤-refl g)) (*-mono₂ (abs-nonneg w) (nonneg (value x) (X .close)) (Y .size) (≤-refl e))))
+      (+-mono (*-mono₂ (abs-nonneg (value x)) (within-nonneg (Y .close)) (est-size X) (≤-refl g)) (*-mono₂ (abs-nonneg w) (within-nonneg (X .close)) (Y .size) (≤-refl e))))
 
--- a * b + c * d, for a, b, c, d of size 1024 at most
-example : (a b c d : Float) → T (finite a) → T (finite b) → T (finite c) → T (finite d) → absq (value a) ≤q nat 1024 → absq (value b) ≤q nat 1024 → absq (value c) ≤q nat 1024 → absq (value d) ≤q nat 1024
-    → Est binary64 (add binary64 (mul binary64 a b) (mul binary64 c d)) (value a *q value b +q value c *q value d) (nat (2 ^ 21)) (1 // 2 ^ 30)
-unfolding leqb nat _*q_ _//_ _+q_
-example a b c d A B C D A′ B′ C′ D′ =
-    let f = binary64 in
-    let p = est-mul f (given f a A A′) (given f b B B′) (lit-≤ tt) in
-    let q = est-mul f (given f c C C′) (given f d D D′) (lit-≤ tt) in
-    let p′ = weaken p (lit-≤ {y = nat (2 ^ 20)} tt) (lit-≤ {y = 1 // 2 ^ 32} tt) in
-    let q′ = weaken q (lit-≤ {y = nat (2 ^ 20)} tt) (lit-≤ {y = 1 // 2 ^ 32} tt) in
-    weaken (est-add f p′ q′ (lit-≤ tt)) (lit-≤ tt) (lit-≤ tt)
+  -- b ≤ |w|, and more than y's error
+  pub est-div : (b : ℚ) → nat 0 <q b -q g → b ≤q absq w → (B +q e) /q (b -q g) ≤q nat (2 ^ emax f)
+      → Est f (div f x y) (z /q w) (B /q b) (eps f *q ((B +q e) /q (b -q g)) +q tiny f +q (e +q B /q b *q g) /q (b -q g))
+  est-div b p h l =
+      let G = within-nonneg (Y .close) in
+      let b-pos : nat 0 <q b = <-≤-trans p (linq (b ∷ g ∷ []) ((## 0 ⊑ qv 1 by 1) ∷ []) 0 (qv 0 ⊟ qv 1) (qv 0) tt G) in
+      -- b - g ≤ |y|
+      let m : b -q g ≤q absq (value y) = linq (b ∷ g ∷ absq w ∷ absq (value y) ∷ []) ((qv 0 ⊑ qv 2 by 1) ∷ (qv 2 ⊑ qv 3 ⊞ qv 1 by 1) ∷ []) 0 (qv 0 ⊟ qv 1) (qv 3) tt h (abs-of-within (within-sym (Y .close)) (≤-refl (absq (value y)))) in
+      let nw = not-zero-of-abs (<-≤-trans b-pos h) in
+      let s = abs-div-le z w b-pos (X .size) h in
+      est-rounded f (div f x y) (value x /q value y) (z /q w) (B /q b) ((B +q e) /q (b -q g)) ((e +q B /q b *q g) /q (b -q g)) (div-rounded-q f x y (X .fin) (Y .fin) (not-zero-of-abs (<-≤-trans p m)))
+      s (abs-div-le (value x) (value y) p (est-size X) m) l (within-div p m nw s (X .close) (Y .close))
 
-horner : (x c0 c1 c2 c3 c4 c5 c6 c7 c8 c9 c10 : Float) → T (finite x) → absq (value x) ≤q nat 1 → T (finite c0) → absq (value c0) ≤q nat 1 → T (finite c1) → absq (value c1) ≤q nat 1 → T (finite c2) → absq (value c2) ≤q nat 1 → T (finite c3) → absq (value c3) ≤q nat 1 → T (finite c4) → absq (value c4) ≤q nat 1 → T (finite c5) → absq (value c5) ≤q nat 1 → T (finite c6) → absq (value c6) ≤q nat 1 → T (finite c7) → absq (value c7) ≤q nat 1 → T (finite c8) → absq (value c8) ≤q nat 1 → T (finite c9) → absq (value c9) ≤q nat 1 → T (finite c10) → absq (value c10) ≤q nat 1
-    → (r : Float) × (z : ℚ) × Est binary64 r z (nat 11) (1 // 2 ^ 44)
-unfolding leqb nat _*q_ _//_ _+q_
-horner x c0 c1 c2 c3 c4 c5 c6 c7 c8 c9 c10 X X′ F0 S0 F1 S1 F2 S2 F3 S3 F4 S4 F5 S5 F6 S6 F7 S7 F8 S8 F9 S9 F10 S10 =
-    let f = binary64 in
-    let gx = given f x X X′ in
-    let r0 = given f c0 F0 S0 in
-    let m1 = weaken (est-mul f r0 gx (lit-≤ tt)) (lit-≤ {y = nat 1} tt) (lit-≤ {y = 4 // 2 ^ 52} tt) in
-    let r1 = weaken (est-add f m1 (given f c1 F1 S1) (lit-≤ tt)) (lit-≤ {y = nat 2} tt) (lit-≤ {y = 6 // 2 ^ 52} tt) in
-    let m2 = weaken (est-mul f r1 gx (lit-≤ tt)) (lit-≤ {y = nat 2} tt) (lit-≤ {y = 12 // 2 ^ 52} tt) in
-    let r2 = weaken (est-add f m2 (given f c2 F2 S2) (lit-≤ tt)) (lit-≤ {y = nat 3} tt) (lit-≤ {y = 16 // 2 ^ 52} tt) in
-    let m3 = weaken (est-mul f r2 gx (lit-≤ tt)) (lit-≤ {y = nat 3} tt) (lit-≤ {y = 24 // 2 ^ 52} tt) in
-    let r3 = weaken (est-add f m3 (given f c3 F3 S3) (lit-≤ tt)) (lit-≤ {y = nat 4} tt) (lit-≤ {y = 30 // 2 ^ 52} tt) in
-    let m4 = weaken (est-mul f r3 gx (lit-≤ tt)) (lit-≤ {y = nat 4} tt) (lit-≤ {y = 40 // 2 ^ 52} tt) in
-    let r4 = weaken (est-add f m4 (given f c4 F4 S4) (lit-≤ tt)) (lit-≤ {y = nat 5} tt) (lit-≤ {y = 48 // 2 ^ 52} tt) in
-    let m5 = weaken (est-mul f r4 gx (lit-≤ tt)) (lit-≤ {y = nat 5} tt) (lit-≤ {y = 60 // 2 ^ 52} tt) in
-    let r5 = weaken (est-add f m5 (given f c5 F5 S5) (lit-≤ tt)) (lit-≤ {y = nat 6} tt) (lit-≤ {y = 70 // 2 ^ 52} tt) in
-    let m6 = weaken (est-mul f r5 gx (lit-≤ tt)) (lit-≤ {y = nat 6} tt) (lit-≤ {y = 84 // 2 ^ 52} tt) in
-    let r6 = weaken (est-add f m6 (given f c6 F6 S6) (lit-≤ tt)) (lit-≤ {y = nat 7} tt) (lit-≤ {y = 96 // 2 ^ 52} tt) in
-    let m7 = weaken (est-mul f r6 gx (lit-≤ tt)) (lit-≤ {y = nat 7} tt) (lit-≤ {y = 112 // 2 ^ 52} tt) in
-    let r7 = weaken (est-add f m7 (given f c7 F7 S7) (lit-≤ tt)) (lit-≤ {y = nat 8} tt) (lit-≤ {y = 126 // 2 ^ 52} tt) in
-    let m8 = weaken (est-mul f r7 gx (lit-≤ tt)) (lit-≤ {y = nat 8} tt) (lit-≤ {y = 144 // 2 ^ 52} tt) in
-    let r8 = weaken (est-add f m8 (given f c8 F8 S8) (lit-≤ tt)) (lit-≤ {y = nat 9} tt) (lit-≤ {y = 160 // 2 ^ 52} tt) in
-    let m9 = weaken (est-mul f r8 gx (lit-≤ tt)) (lit-≤ {y = nat 9} tt) (lit-≤ {y = 180 // 2 ^ 52} tt) in
-    let r9 = weaken (est-add f m9 (given f c9 F9 S9) (lit-≤ tt)) (lit-≤ {y = nat 10} tt) (lit-≤ {y = 198 // 2 ^ 52} tt) in
-    let m10 = weaken (est-mul f r9 gx (lit-≤ tt)) (lit-≤ {y = nat 10} tt) (lit-≤ {y = 220 // 2 ^ 52} tt) in
-    let r10 = weaken (est-add f m10 (given f c10 F10 S10) (lit-≤ tt)) (lit-≤ {y = nat 11} tt) (lit-≤ {y = 240 // 2 ^ 52} tt) in
-    (_, _, weaken r10 (lit-≤ tt) (lit-≤ tt))
+  pub est-maximum : Est f (maximum x y) (maxq z w) (maxq B C) (maxq e g)
+  est-maximum = record {
+    fin = maximum-finite x y (X .fin) (Y .fin);
+    size = max-by (λ v. absq v ≤q maxq B C) z w (λ h. ≤-trans (Y .size) (≤-max-r B C)) (λ h. ≤-trans (X .size) (≤-max-l B C));
+    close = within-≈ (≈-sym (value-maximum x y (X .fin) (Y .fin))) (≈-refl (maxq z w)) (within-max (X .close) (Y .close));
+  }
 
--- ---- a sum of n values of size 1 at most, one after another: n n 2 ^ -53 away at most
-sum-step : (n : ℕ) → n ≤ 2 ^ 52 → (r x : Float) (z : ℚ) → T (fits binary64 r) → T (fits binary64 x) → T (finite x) → absq (value x) ≤q nat 1
-    → Est binary64 r z (nat n) (nat n *q nat n *q (1 // 2 ^ 53)) → Est binary64 (add binary64 r x) (z +q value x) (nat (suc n)) (nat (suc n) *q nat (suc n) *q (1 // 2 ^ 53))
-sum-step n l r x z R X t h E =
-    let N = nat n in
-    let N₀ : nat 0 ≤q N = nat-≤ {a = 0} zero-le in
-    let N₁ : N ≤q nat (2 ^ 52) = nat-≤ l in
-    let N₂ : N *q N ≤q nat (2 ^ 52) *q N = ≤-trans (*-mono N₀ N₁) (≤-of-≈ (*-comm N (nat (2 ^ 52)))) in
-    let top = linq (N ∷ []) ((qv 0 ⊑ ## (2 ^ 52) by 13510798882111488) ∷ (qv 0 ⊠ qv 0 ⊑ ## (2 ^ 52) ⊠ qv 0 by 1) ∷ []) 9007199254740991 (qv 0 ⊞ qv 0 ⊠ qv 0 ⊠ 1 ÷ 2 ^ 53 ⊞ (## 1 ⊞ ## 0)) (## (2 ^ 1023)) tt N₁ N₂ in
-    let e = linq (N ∷ []) ((## 0 ⊑ qv 0 by 4503599627370496) ∷ (qv 0 ⊠ qv 0 ⊑ ## (2 ^ 52) ⊠ qv 0 by 1) ∷ []) 81129638414606681695789005144063
-    (1 ÷ 2 ^ 53 ⊠ (qv 0 ⊞ qv 0 ⊠ qv 0 ⊠ 1 ÷ 2 ^ 53 ⊞ (## 1 ⊞ ## 0)) ⊞ (qv 0 ⊠ qv 0 ⊠ 1 ÷ 2 ^ 53 ⊞ ## 0)) ((qv 0 ⊞ ## 1) ⊠ (qv 0 ⊞ ## 1) ⊠ 1 ÷ 2 ^ 53) tt N₀ N₂ in
-    let s : nat n +q nat 1 ≈q nat (suc n) = ≈-sym (≈-trans (nat-≡ (sym (add-one n))) (nat-+ n 1)) in
-    weaken (est-add-fits binary64 E (given binary64 x t h) R X top) (≤-of-≈ s) (≤-trans e (≤-of-≈ (*-cong (*-cong s s) (≈-refl (1 // 2 ^ 53)))))
+-- with no error of their own
+pub est-neg : (f : Format) {x : Float} {z B e : ℚ} → Est f x z B e → Est f (neg x) (negq z) B e
+est-neg f {x} {z} X = record { fin = neg-finite x (X .fin); size = ≤-trans (≤-of-≈ (abs-neg z)) (X .size); close = within-≈ (≈-sym (value-neg x)) (≈-refl (negq z)) (within-neg (X .close)) }
+
+pub est-absolute : (f : Format) {x : Float} {z B e : ℚ} → Est f x z B e → Est f (absolute x) (absq z) B e
+est-absolute f {x} {z} X = record { fin = absolute-finite x (X .fin); size = ≤-trans (≤-of-≈ (abs-abs z)) (X .size); close = within-≈ (≈-sym (value-absolute x)) (≈-refl (absq z)) (within-abs-abs (X .close)) }
+
+-- ---- closed bounds, for binary64: one test says that nothing overflows, that D bounds the size and that d bounds the error
+three : (a b c : Bool) → T (a && (b && c)) → T a × T b × T c
+three a b c t = let u = and-r a (b && c) t in (and-l a (b && c) t, and-l b c u, and-r b c u)
+
+abbrev top : ℚ
+top = nat (2 ^ emax binary64)
+
+abbrev sum-error : ℚ → ℚ → ℚ → ℚ → ℚ
+sum-error B e C g = eps binary64 *q ((B +q e) +q (C +q g)) +q (e +q g)
+
+abbrev sum-error-tiny : ℚ → ℚ → ℚ → ℚ → ℚ
+sum-error-tiny B e C g = eps binary64 *q ((B +q e) +q (C +q g)) +q tiny binary64 +q (e +q g)
+
+abbrev product-error : ℚ → ℚ → ℚ → ℚ → ℚ
+product-error B e C g = eps binary64 *q ((B +q e) *q (C +q g)) +q tiny binary64 +q ((B +q e) *q g +q C *q e)
+
+abbrev quotient-error : ℚ → ℚ → ℚ → ℚ → ℚ
+quotient-error B e b g = eps binary64 *q ((B +q e) /q (b -q g)) +q tiny binary64 +q (e +q B /q b *q g) /q (b -q g)
+
+unfoldable pub sum-test : (B e C g D d : ℚ) → Bool
+unfolding leqb nat _//_ _+q_ _*q_
+sum-test B e C g D d = leqb ((B +q e) +q (C +q g)) top && (leqb (B +q C) D && leqb (sum-error-tiny B e C g) d)
+
+unfoldable pub sum-fits-test : (B e C g D d : ℚ) → Bool
+unfolding leqb nat _//_ _+q_ _*q_
+sum-fits-test B e C g D d = leqb ((B +q e) +q (C +q g)) top && (leqb (B +q C) D && leqb (sum-error B e C g) d)
+
+unfoldable pub product-test : (B e C g D d : ℚ) → Bool
+unfolding leqb nat _//_ _+q_ _*q_
+product-test B e C g D d = leqb ((B +q e) *q (C +q g)) top && (leqb (B *q C) D && leqb (product-error B e C g) d)
+
+unfoldable pub quotient-test : (B e b g D d : ℚ) → Bool
+unfolding leqb ltqb nat _//_ _+q_ _-q_ _*q_ _/q_
+quotient-test B e b g D d = ltqb (nat 0) (b -q g) && (leqb ((B +q e) /q (b -q g)) top && (leqb (B /q b) D && leqb (quotient-error B e b g) d))
+
+module _ {x y : Float} {z w B C e g : ℚ} (X : Est binary64 x z B e) (Y : Est binary64 y w C g) (D d : ℚ) where
+  pub est-⊕ : T (sum-test B e C g D d) → Est binary64 (x ⊕ y) (z +q w) D d
+  unfolding sum-test
+  est-⊕ t = let (o, s, r) = three (leqb ((B +q e) +q (C +q g)) top) (leqb (B +q C) D) (leqb (sum-error-tiny B e C g) d) t in weaken (est-add binary64 X Y (lit-≤ o)) (lit-≤ s) (lit-≤ r)
+
+  pub est-⊖ : T (sum-test B e C g D d) → Est binary64 (x ⊖ y) (z -q w) D d
+  unfolding sum-test
+  est-⊖ t = let (o, s, r) = three (leqb ((B +q e) +q (C +q g)) top) (leqb (B +q C) D) (leqb (sum-error-tiny B e C g) d) t in weaken (est-sub binary64 X Y (lit-≤ o)) (lit-≤ s) (lit-≤ r)
+
+  pub est-⊕-fits : T (fits binary64 x) → T (fits binary64 y) → T (sum-fits-test B e C g D d) → Est binary64 (x ⊕ y) (z +q w) D d
+  unfolding sum-fits-test
+  est-⊕-fits p q t = let (o, s, r) = three (leqb ((B +q e) +q (C +q g)) top) (leqb (B +q C) D) (leqb (sum-error B e C g) d) t in weaken (est-add-fits binary64 X Y p q (lit-≤ o)) (lit-≤ s) (lit-≤ r)
+
+  pub est-⊖-fits : T (fits binary64 x) → T (fits binary64 y) → T (sum-fits-test B e C g D d) → Est binary64 (x ⊖ y) (z -q w) D d
+  unfolding sum-fits-test
+  est-⊖-fits p q t = let (o, s, r) = three (leqb ((B +q e) +q (C +q g)) top) (leqb (B +q C) D) (leqb (sum-error B e C g) d) t in weaken (est-sub-fits binary64 X Y p q (lit-≤ o)) (lit-≤ s) (lit-≤ r)
+
+  pub est-⊗ : T (product-test B e C g D d) → Est binary64 (x ⊗ y) (z *q w) D d
+  unfolding product-test
+  est-⊗ t = let (o, s, r) = three (leqb ((B +q e) *q (C +q g)) top) (leqb (B *q C) D) (leqb (product-error B e C g) d) t in weaken (est-mul binary64 X Y (lit-≤ o)) (lit-≤ s) (lit-≤ r)
+
+  -- by a divisor w with b ≤ |w|
+  pub est-⊘ : (b : ℚ) → b ≤q absq w → T (quotient-test B e b g D d) → Est binary64 (x ⊘ y) (z /q w) D d
+  unfolding quotient-test
+  est-⊘ b h t =
+      let rest = leqb ((B +q e) /q (b -q g)) top && (leqb (B /q b) D && leqb (quotient-error B e b g) d) in
+      let (o, s, r) = three (leqb ((B +q e) /q (b -q g)) top) (leqb (B /q b) D) (leqb (quotient-error B e b g) d) (and-r (ltqb (nat 0) (b -q g)) rest t) in
+      weaken (est-div binary64 X Y b (lit-< (and-l (ltqb (nat 0) (b -q g)) rest t)) h (lit-≤ o)) (lit-≤ s) (lit-≤ r)
+
+-- a constant for z, which need not be a float: |z| ≤ B, and the float is within e of it
+unfoldable pub literal-test : ℕ → (z B e : ℚ) → Bool
+unfolding ofBits value leqb absq nat _//_ negq _-q_
+literal-test n z B e = (finite (ofBits binary64 n) && leqb (absq z) B) && (leqb (value (ofBits binary64 n) -q z) e && leqb (z -q value (ofBits binary64 n)) e)
+
+pub est-literal : (n : ℕ) (z B e : ℚ) → T (literal-test n z B e) → Est binary64 (ofBits binary64 n) z B e
+unfolding literal-test
+est-literal n z B e t =
+    let x = ofBits binary64 n in
+    let a = finite x && leqb (absq z) B in let b = leqb (value x -q z) e && leqb (z -q value x) e in
+    record {
+      fin = and-l (finite x) (leqb (absq z) B) (and-l a b t);
+      size = lit-≤ (and-r (finite x) (leqb (absq z) B) (and-l a b t));
+      close = record { above = lit-≤ (and-l (leqb (value x -q z) e) (leqb (z -q value x) e) (and-r a b t)); below = lit-≤ (and-r (leqb (value x -q z) e) (leqb (z -q value x) e) (and-r a b t)) };
+    }

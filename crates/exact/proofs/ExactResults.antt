@@ -1,10 +1,10 @@
 -- Where an operation makes no error: its exact result is a value of the format.
-use Prim.Native.Nat.{ℕ, zero, suc, _+_, _-_, _*_, _^_, _≤_, _<_}
-use mathlib.Core.Path.{_≡_, refl, sym, ap, _∙_, subst}
+use Prim.Native.Nat.{ℕ, suc, _+_, _*_, _^_, _≤_, _<_}
+use mathlib.Core.Path.{_≡_, sym, ap, _∙_, subst}
 use mathlib.Core.Bool.{Bool, true, false}
-use native.Mathlib.Nat.{mul-pos, le-of-mul-le-mul-right, zero-lt-suc, eq-or-lt-of-le, le-trans, le-of-eq, le-of-lt, lt-of-le-of-lt, mul-one, one-mul, mul-comm, mul-lt-mul-of-pos-right}
+use native.Mathlib.Nat.{zero-lt-suc, eq-or-lt-of-le, le-trans, le-of-eq, le-of-lt, lt-of-le-of-lt, mul-one, one-mul, mul-comm, mul-lt-mul-of-pos-right}
 use mathlib.Core.Logic.{inl, inr}
-use lib.IntN.{ℤ, pos, negsuc, natAbs}
+use lib.IntN.{pos, negsuc}
 use native.Mathlib.Omega.{arith}
 use lib.Dec.{T, lit≤, leb→le, ltb→lt}
 use lib.Pow.{pow-pos, pow-add, pow-mono, pow-lt}
@@ -14,7 +14,7 @@ use lib.Ieee.Scale.{finite, overflow}
 use Rattle.exact.specs.Fraction.{ℚ, nat, negq, _≈q_}
 use Rattle.exact.specs.FloatValue.{signed, value}
 use Rattle.exact.proofs.RoundingGrid.{value-finite}
-use Rattle.exact.proofs.FractionLaws.{≈-refl, ≈-sym, ≈-trans}
+use Rattle.exact.proofs.FractionLaws.{≈-sym, ≈-trans}
 use Rattle.exact.proofs.Rounding.{Rounded, value-≈}
 
 -- signed fractions with one sign

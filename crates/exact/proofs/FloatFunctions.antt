@@ -1,22 +1,22 @@
 -- The methods of f64 that specs/Float64 defines, in exact values: absolute value, maximum, sign. Each keeps finite floats finite and held by the format.
-use Prim.Native.Nat.{ℕ, zero, suc, _+_, _*_, _^_, _≤_, _<_}
-use mathlib.Core.Path.{_≡_, refl, sym, ap, subst}
+use Prim.Native.Nat.{ℕ, zero, suc, _*_, _<_}
+use mathlib.Core.Path.{_≡_, refl, sym, subst}
 use mathlib.Core.Logic.{_⊎_, inl, inr}
 use mathlib.Core.Bool.{Bool, true, false, not, cond}
 use native.Mathlib.Omega.{arith}
-use lib.Dec.{T, T-not}
-use lib.Ieee.{Float, nan, inf, fin, Format, binary64, up, down, lt, neg, fits, isNan, ofBits}
-use lib.Ieee.Fits.{down-pos, neg-fits}
+use lib.Dec.{T}
+use lib.Ieee.{Float, nan, inf, fin, Format, binary64, up, down, lt, fits, isNan, ofBits}
+use lib.Ieee.Fits.{down-pos}
 use lib.Ieee.Scale.{finite}
-use Rattle.exact.specs.Fraction.{ℚ, nat, negq, absq, maxq, _≤q_, _<q_, _≈q_}
+use Rattle.exact.specs.Fraction.{nat, negq, absq, maxq, _≤q_, _<q_, _≈q_}
 use Rattle.exact.specs.FloatValue.{signed, value}
 use Rattle.exact.specs.Float64.{_<f_, +1, -1, absolute, signum, maximum}
-use Rattle.exact.proofs.FractionLaws.{≈-refl, ≈-sym, ≈-trans, ≤-of-≈, ≤-refl, ≤-trans}
+use Rattle.exact.proofs.FractionLaws.{≈-refl, ≈-sym, ≈-trans, ≤-refl}
 use Rattle.exact.proofs.StrictOrder.{≤-of-<, not-≤-of-<, nat-nonneg}
 use Rattle.exact.proofs.AbsoluteValue.{abs-neg, abs-cong, abs-of-nonneg, abs-of-nonpos}
 use Rattle.exact.proofs.Maximum.{max-is-l, max-is-r}
 use Rattle.exact.proofs.Comparisons.{lt→<, nlt→≤}
-use Rattle.exact.proofs.Constants.{value-+1, value--1, constant-fits}
+use Rattle.exact.proofs.Constants.{value-+1, value-minus-1, constant-fits}
 
 -- ---- absolute
 pub absolute-finite : (x : Float) → T (finite x) → T (finite (absolute x))
@@ -132,7 +132,7 @@ module _ (x : Float) (t : T (finite x)) where
   signum-fits = by-sign (λ z. T (fits binary64 z)) (constant-fits 0x3ff0_0000_0000_0000) (constant-fits 0xbff0_0000_0000_0000)
 
   pub abs-signum : absq (value (signum x)) ≈q nat 1
-  abs-signum = by-sign (λ z. absq (value z) ≈q nat 1) (≈-trans (abs-cong value-+1) one) (≈-trans (abs-cong value--1) (≈-trans (abs-neg (nat 1)) one))
+  abs-signum = by-sign (λ z. absq (value z) ≈q nat 1) (≈-trans (abs-cong value-+1) one) (≈-trans (abs-cong value-minus-1) (≈-trans (abs-neg (nat 1)) one))
     where
       one : absq (nat 1) ≈q nat 1
       one = abs-of-nonneg (nat-nonneg 1)

@@ -1,20 +1,16 @@
 -- The quotient of two exact fractions: x / y is the one number z with z y = x. Its sign and size, its bounds, and how far two quotients are apart.
-use Prim.Native.Nat.{ℕ, zero, suc, _+_, _-_, _*_, _≤_, _<_, max}
-use mathlib.Core.Path.{_≡_, refl, sym, _∙_, ap, subst}
-use mathlib.Core.List.{List, [], _∷_}
-use mathlib.Core.Logic.{_⊎_, inl, inr}
-use native.Mathlib.Nat.{mul-pos, eq-zero-or-pos}
+use Prim.Native.Nat.{ℕ, _+_, _-_, _*_, _<_, max}
+use mathlib.Core.Path.{_≡_, sym, subst}
+use mathlib.Core.List.{[], _∷_}
+use mathlib.Core.Logic.{inl, inr}
+use native.Mathlib.Nat.{mul-pos}
 use native.Mathlib.Omega.{arith, ne-cases}
-use Rattle.exact.specs.Fraction.{ℚ, _//_, nat, _+q_, negq, _-q_, _*q_, _/q_, absq, _≤q_, _<q_, _≈q_, Within, one-or-more}
-use Rattle.exact.proofs.NatProver.{ν, #, _⊹_, _⋆_, poly-eq}
-use Rattle.exact.proofs.FractionLaws.{≈-refl, ≈-sym, ≈-trans, +-cong, *-comm, *-assoc, *-cong, *-cong-r, one-*, zero-*, neg-cong, ≤-of-≈, ≤-refl, ≤-trans, +-mono, *-mono}
-use Rattle.exact.proofs.FractionProver.{QE, qv, ##, _÷_, _⊞_, _⊟_, _⊠_, ⊝, leq, req, linq, _⊑_by_}
-use Rattle.exact.proofs.StrictOrder.{≤-of-<, <-or-≈-or->, <-of-not-≤, not-≤-of-<, not-≈-of->, <-≤-trans, ≤-<-trans, <-≈, neg-mono-<, *-cancel-≤, *-cancel-≈, *-mono-<, *-nonneg, nat-<}
-use Rattle.exact.proofs.AbsoluteValue.{abs-nonneg, abs-cong, abs-*-≈, abs-pos, abs-of-nonneg, not-zero-of-abs, not-zero-of-pos, le-abs, abs-le}
-use Rattle.exact.proofs.Closeness.{within-abs, abs-within, mul-within, within-trans, within-≈, within-+, abs-of-within, *-mono₂, abs-*-le}
-
-max-one : (b : ℕ) → 0 < b → max b 1 ≡ b
-max-one b h = omega arith
+use Rattle.exact.specs.Fraction.{ℚ, _//_, nat, _+q_, negq, _-q_, _*q_, _/q_, absq, _≤q_, _<q_, _≈q_, Within}
+use Rattle.exact.proofs.FractionLaws.{max-one, ≈-refl, ≈-sym, ≈-trans, +-cong, *-comm, *-assoc, *-cong, *-cong-r, one-*, zero-*, neg-cong, ≤-of-≈, ≤-trans, *-mono}
+use Rattle.exact.proofs.FractionProver.{qv, ##, _⊞_, _⊟_, _⊠_, ⊝, req}
+use Rattle.exact.proofs.StrictOrder.{≤-of-<, <-or-≈-or->, <-of-not-≤, not-≤-of-<, <-≤-trans, ≤-<-trans, <-≈, neg-mono-<, *-cancel-≤, *-cancel-≈, nat-<}
+use Rattle.exact.proofs.AbsoluteValue.{abs-nonneg, abs-cong, abs-*-≈, abs-pos, not-zero-of-abs, not-zero-of-pos}
+use Rattle.exact.proofs.Closeness.{within-abs, abs-within, within-trans, within-≈, abs-*-le}
 
 -- with yp = yq + n
 up-case : (xp xq xd yq yd n : ℕ) → ((xp * n + xq * 0) * yd * (yq + n) + (xq * n + xp * 0) * yd * yq) * xd + xq * (xd * (n * n + 0 * 0) * yd) ≡ xp * (xd * (n * n + 0 * 0) * yd) + ((xp * n + xq * 0) * yd * yq + (xq * n + xp * 0) * yd * (yq + n)) * xd

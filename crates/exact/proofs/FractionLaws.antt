@@ -1,12 +1,12 @@
--- The laws of the exact fractions.
-use Prim.Native.Nat.{ℕ, zero, suc, _+_, _-_, _*_, _^_, _≤_, _<_, max}
-use mathlib.Core.Path.{_≡_, refl, sym, _∙_, ap, subst₂}
-use native.Mathlib.Nat.{mul-pos, mul-le-mul-right, mul-le-mul-left, le-of-eq, le-antisymm, le-of-mul-le-mul-right, eq-of-mul-eq-mul-right, le-dest}
+-- The laws of the exact fractions: a commutative ring up to being the same number, in order; whole numbers among them; closed comparisons by computation.
+use Prim.Native.Nat.{ℕ, _+_, _*_, _≤_, _<_, max}
+use mathlib.Core.Path.{_≡_, refl, ap, subst₂}
+use native.Mathlib.Nat.{mul-pos, mul-le-mul-right, le-of-eq, le-of-mul-le-mul-right, eq-of-mul-eq-mul-right, le-dest}
 use native.Mathlib.Omega.{arith}
 use lib.Dec.{T, leb→le}
 use mathlib.Core.List.{[], _∷_}
-use Rattle.exact.proofs.NatProver.{ν, #, _⊹_, _⋆_, poly-eq}
-use Rattle.exact.specs.Fraction.{ℚ, _//_, nat, _+q_, negq, _-q_, _*q_, absq, _≤q_, _≈q_, leqb}
+use Rattle.exact.proofs.NatProver.{ν, _⊹_, _⋆_, poly-eq}
+use Rattle.exact.specs.Fraction.{ℚ, _//_, nat, _+q_, negq, _*q_, _≤q_, _≈q_, leqb}
 
 -- ---- the same number
 pub ≈-refl : (x : ℚ) → x ≈q x
@@ -90,9 +90,17 @@ pub neg-cong : {x y : ℚ} → x ≈q y → negq x ≈q negq y
 unfolding negq
 neg-cong e = let h = e .eq in record { eq = omega arith }
 
+pub neg-neg : (x : ℚ) → negq (negq x) ≈q x
+unfolding negq
+neg-neg x = ≈-refl x
+
 pub neg-+ : (x : ℚ) → negq x +q x ≈q nat 0
 unfolding negq _+q_ nat
 neg-+ x = record { eq = omega arith }
+
+-- the denominator of a // b
+pub max-one : (b : ℕ) → 0 < b → max b 1 ≡ b
+max-one b h = omega arith
 
 pub frac-is : (a b : ℕ) → nat (max b 1) *q (a // b) ≈q nat a
 unfolding _*q_ _//_ nat

@@ -1,15 +1,15 @@
 -- A prover for the exact fractions: `linq` proves L ≤ R from hypotheses a ≤ b, each taken so many times, by multiplying everything out.
 -- It knows that the fractions are a commutative ring in order, and nothing of what a variable stands for: a product of two facts is handed to it as one more.
-use Prim.Native.Nat.{ℕ, zero, suc, _+_, _*_, _≤_, _<_, max, zero-le}
-use mathlib.Core.Path.{_≡_, refl, sym, _∙_, ap, subst}
+use Prim.Native.Nat.{ℕ, zero, suc, _*_, _≤_, _<_, max, zero-le}
+use mathlib.Core.Path.{_≡_, subst}
 use mathlib.Core.List.{List, [], _∷_}
-use mathlib.Core.Bool.{Bool, true, false, _&&_}
+use mathlib.Core.Bool.{Bool, _&&_}
 use native.Mathlib.Nat.{mul-pos, zero-lt-suc}
 use native.Mathlib.Omega.{arith}
-use lib.Dec.{T, leb, eqb, ltb, leb→le, eqb→eq, ltb→lt}
-use Rattle.exact.specs.Fraction.{ℚ, _//_, nat, _+q_, negq, _-q_, _*q_, absq, _≤q_, _≈q_, leqb, one-or-more}
+use lib.Dec.{T, leb, eqb, leb→le, eqb→eq}
+use Rattle.exact.specs.Fraction.{ℚ, _//_, nat, _+q_, negq, _-q_, _*q_, _≤q_, _≈q_, one-or-more}
 use Rattle.exact.proofs.NatProver.{Expr, ν, #, _⊹_, _⋆_, _↑_, S, Poly, k, h, plus, scale, under, times, var, power, norm, and-l, and-r}
-use Rattle.exact.proofs.FractionLaws.{≈-refl, ≈-sym, ≈-trans, +-comm, +-assoc, *-comm, *-assoc, *-+, +-cong, *-cong, zero-+, zero-*, one-*, nat-+, nat-*, neg-cong, neg-+, frac-is, ≤-of-≈, ≤-refl, ≤-trans, +-mono, +-cancel, neg-mono, nat-cancel, *-mono, lit-≤, ≤-antisym}
+use Rattle.exact.proofs.FractionLaws.{≈-refl, ≈-sym, ≈-trans, +-comm, +-assoc, *-comm, *-assoc, *-+, +-cong, *-cong, zero-+, zero-*, one-*, nat-+, nat-*, neg-+, frac-is, ≤-of-≈, ≤-refl, ≤-trans, +-mono, +-cancel, nat-cancel, *-mono, ≤-antisym}
 
 infixr 30 _⟫_
 _⟫_ : {x y z : ℚ} → x ≈q y → y ≈q z → x ≈q z

@@ -1,13 +1,12 @@
 -- The larger of two exact fractions, and the largest of four.
-use mathlib.Core.Path.{_≡_, refl, sym, subst}
+use mathlib.Core.Path.{_≡_, refl}
 use mathlib.Core.Bool.{Bool, true, false, not, cond}
 use mathlib.Core.Logic.{_⊎_, inl, inr}
-use lib.Dec.{T, leb→le, nleb→lt}
+use lib.Dec.{T, nleb→lt}
 use native.Mathlib.Nat.{le-of-lt}
-use Prim.Native.Nat.{ℕ, _+_, _*_}
+use Prim.Native.Nat.{_+_, _*_}
 use Rattle.exact.specs.Fraction.{ℚ, nat, _*q_, _≤q_, _<q_, _≈q_, leqb, maxq, max4}
-use Rattle.exact.proofs.FractionLaws.{≈-refl, ≈-sym, ≤-of-≈, ≤-refl, ≤-trans, ≤-antisym, *-mono, lit-≤}
-use Rattle.exact.proofs.StrictOrder.{≤-of-<, <-≤-trans}
+use Rattle.exact.proofs.FractionLaws.{≈-sym, ≤-of-≈, ≤-refl, ≤-trans, ≤-antisym, *-mono, lit-≤}
 
 -- ---- the test that decides
 leqb-no : (x y : ℚ) → T (not (leqb x y)) → y ≤q x

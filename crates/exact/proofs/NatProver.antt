@@ -1,10 +1,10 @@
 -- Polynomials over the native ℕ, multiplied out by computation: equations, orders that hold coefficient by coefficient, and orders that
 -- follow from hypotheses, each times a polynomial. Where `omega` stops (64 monomials, numbers of 38 digits, a hypothesis times a factor) this goes on.
-use Prim.Native.Nat.{ℕ, zero, suc, _+_, _*_, _^_, _≤_, _<_, zero-le, suc-le-suc}
+use Prim.Native.Nat.{ℕ, zero, suc, _+_, _*_, _^_, _≤_, zero-le}
 use mathlib.Core.Path.{_≡_, refl, sym, _∙_, ap, ap₂, subst₂}
 use mathlib.Core.List.{List, [], _∷_}
 use mathlib.Core.Bool.{Bool, true, false, _&&_}
-use native.Mathlib.Nat.{zero-add, add-zero, zero-mul, mul-zero, mul-one, one-mul, add-comm, mul-add, add-mul, mul-assoc, mul-left-comm, le-refl, le-trans, le-of-eq, le-antisymm, add-le-add, mul-le-mul, mul-le-mul-left, mul-le-mul-right, add-le-add-iff-right, lt-of-mul-lt-mul-left, le-of-suc-le-suc, pow-suc, pow-zero, mul-suc}
+use native.Mathlib.Nat.{zero-add, add-zero, zero-mul, mul-zero, add-comm, mul-add, le-trans, le-of-eq, le-antisymm, add-le-add, mul-le-mul-left, lt-of-mul-lt-mul-left, le-of-suc-le-suc, pow-suc, pow-zero, mul-suc}
 use native.Mathlib.Numerals.{add-one}
 use native.Mathlib.Omega.{arith}
 use lib.Dec.{T, leb, leb→le}

@@ -1,22 +1,23 @@
 -- The numbers that a format holds: at most `prec` digits, times a power of two from the smallest value on, below 2 ^ (emax + 1).
 -- A float that fits is one, so is each power of two in the range; a closed fraction is tested by computation. An operation whose exact result is one makes no error.
 use Prim.Native.Nat.{ℕ, zero, suc, _+_, _-_, _*_, _/_, _%_, _^_, _≤_, _<_}
-use mathlib.Core.Path.{_≡_, refl, sym, ap, _∙_, subst}
-use mathlib.Core.Logic.{_⊎_, inl, inr}
-use mathlib.Core.Bool.{Bool, true, false, not, _&&_, cond}
-use native.Mathlib.Nat.{le-trans, le-of-eq, lt-of-lt-of-le, lt-of-le-of-lt, lt-of-mul-lt-mul-right, le-of-mul-le-mul-right, mul-pos, mul-le-mul-right, mul-lt-mul-of-pos-right, add-sub-of-le, mul-one, one-mul, mul-comm, mul-assoc, div-add-mod', zero-lt-suc, pow-suc}
+use mathlib.Core.Path.{_≡_, sym, ap, _∙_, subst}
+use mathlib.Core.List.{[], _∷_}
+use mathlib.Core.Bool.{Bool, true, false, not, _&&_}
+use native.Mathlib.Nat.{le-trans, le-of-eq, lt-of-lt-of-le, lt-of-le-of-lt, lt-of-mul-lt-mul-right, mul-lt-mul-of-pos-right, mul-one, one-mul}
 use native.Mathlib.Omega.{arith}
-use lib.Dec.{T, leb, ltb, eqb, leb→le, nleb→lt, ltb→lt, nltb→le, eqb→eq, lit≤}
-use lib.Pow.{pow-add, pow-pos, pow-mono, pow-lt}
+use lib.Dec.{T, leb, ltb, eqb, leb→le, ltb→lt, nltb→le, eqb→eq, lit≤}
+use lib.Pow.{pow-add, pow-pos, pow-mono}
 use lib.IntN.{ℤ, pos, negsuc}
-use lib.Ieee.{Float, nan, inf, fin, Format, binary64, prec, emax, low, up, down, size, round, neg, add, sub, mul, div, fits}
-use lib.Ieee.Fits.{up-pos, down-pos, kept-lt}
+use lib.Ieee.{Float, nan, inf, fin, Format, binary64, prec, emax, low, up, down, size, add, sub, mul, div, fits}
+use lib.Ieee.Fits.{down-pos, kept-lt}
 use lib.Ieee.Scale.{finite, overflow}
-use Rattle.exact.specs.Fraction.{ℚ, _//_, nat, _+q_, negq, _-q_, _*q_, _/q_, absq, _≤q_, _<q_, _≈q_}
+use Rattle.exact.specs.Fraction.{ℚ, nat, _+q_, negq, _-q_, _*q_, _/q_, _≈q_}
 use Rattle.exact.specs.FloatValue.{signed, value}
 use Rattle.exact.proofs.NatProver.{and-l, and-r}
-use Rattle.exact.proofs.FractionLaws.{≈-refl, ≈-sym, ≈-trans, neg-cong}
-use Rattle.exact.proofs.Rounding.{Rounded, rounded-≈, add-rounded, sub-rounded, mul-rounded, div-rounded-q, pow-le-inv}
+use Rattle.exact.proofs.FractionLaws.{≈-refl, ≈-trans, +-cong, *-cong, *-cong-r, one-*, neg-cong}
+use Rattle.exact.proofs.FractionProver.{qv, ##, _⊞_, _⊠_, ⊝, req}
+use Rattle.exact.proofs.Rounding.{Rounded, signed-not, rounded-≈, add-rounded, sub-rounded, mul-rounded, div-rounded-q, pow-le-inv}
 use Rattle.exact.proofs.ExactResults.{exact-of}
 
 -- ±digits * 2 ^ place of the format's smallest values
@@ -30,11 +31,6 @@ pub record Representable (f : Format) (z : ℚ) : Type 0 where
 
 pub representable-≈ : {f : Format} {z w : ℚ} → Representable f z → z ≈q w → Representable f w
 representable-≈ h e = record { sign = h .sign; digits = h .digits; place = h .place; few = h .few; small = h .small; is = ≈-trans (h .is) e }
-
-signed-not : (s : Bool) (a c : ℕ) (C : 0 < c) → signed (not s) a c C ≈q negq (signed s a c C)
-unfolding negq
-signed-not true a c C = ≈-refl (signed false a c C)
-signed-not false a c C = ≈-refl (signed true a c C)
 
 pub representable-neg : {f : Format} {z : ℚ} → Representable f z → Representable f (negq z)
 representable-neg {f} h = record {
@@ -72,9 +68,9 @@ place-of (negsuc k) l h = (l - suc k, one-mul (2 ^ l) ∙ sym (sym (pow-add 2 (l
     back : (a b : ℕ) → b ≤ a → a - b + b ≡ a
     back a b h = omega arith
 
-signed-cross : (s : Bool) (a c b d : ℕ) (C : 0 < c) (D : 0 < d) → a * d ≡ b * c → signed s a c C ≈q signed s b d D
-signed-cross true a c b d C D e = record { eq = omega arith }
-signed-cross false a c b d C D e = record { eq = omega arith }
+signed-same : (s : Bool) (a c b d : ℕ) (C : 0 < c) (D : 0 < d) → a * d ≡ b * c → signed s a c C ≈q signed s b d D
+signed-same true a c b d C D e = record { eq = omega arith }
+signed-same false a c b d C D e = record { eq = omega arith }
 
 -- m 2 ^ e
 pub scaled-representable : (f : Format) (s : Bool) (m : ℕ) (e : ℤ) → m < 2 ^ prec f → down e ≤ 2 ^ low f → m * up e < 2 ^ suc (emax f) * down e → Representable f (signed s (m * up e) (down e) (down-pos e))
@@ -85,7 +81,7 @@ scaled-representable f s m e a b c =
       place = j;
       few = a;
       small = in-range m (up e) (down e) (2 ^ j) (2 ^ low f) (2 ^ suc (emax f)) (2 ^ (low f + suc (emax f))) (down-pos e) (pow-pos (low f)) g (pow-add 2 (low f) (suc (emax f))) c;
-      is = signed-cross s (m * 2 ^ j) (2 ^ low f) (m * up e) (down e) (pow-pos (low f)) (down-pos e) (same m (up e) (down e) (2 ^ j) (2 ^ low f) g);
+      is = signed-same s (m * 2 ^ j) (2 ^ low f) (m * up e) (down e) (pow-pos (low f)) (down-pos e) (same m (up e) (down e) (2 ^ j) (2 ^ low f) g);
     }
   where
     same : (m u d j l : ℕ) → u * l ≡ j * d → m * j * d ≡ m * u * l
@@ -98,10 +94,27 @@ pub fits-representable : (f : Format) (x : Float) → T (finite x) → T (fits f
 unfolding fits value
 fits-representable f nan t h = absurd t
 fits-representable f (inf s) t h = absurd t
-fits-representable f (fin s zero e) t h = record { sign = s; digits = 0; place = 0; few = pow-pos (prec f); small = pow-pos (low f + suc (emax f)); is = signed-cross s 0 (2 ^ low f) (0 * up e) (down e) (pow-pos (low f)) (down-pos e) (omega arith) }
+fits-representable f (fin s zero e) t h = record { sign = s; digits = 0; place = 0; few = pow-pos (prec f); small = pow-pos (low f + suc (emax f)); is = signed-same s 0 (2 ^ low f) (0 * up e) (down e) (pow-pos (low f)) (down-pos e) (omega arith) }
 fits-representable f (fin s (suc m) e) t h =
     let a = eqb (suc m % 2) 1 in let b = ltb (suc m) (2 ^ prec f) in let c = leb (down e) (2 ^ low f) in let d = ltb (suc m * up e) (2 ^ suc (emax f) * down e) in
     scaled-representable f s (suc m) e (ltb→lt (suc m) (2 ^ prec f) (and-r a b (and-l (a && b) c (and-l (a && b && c) d h)))) (leb→le (down e) (2 ^ low f) (and-r (a && b) c (and-l (a && b && c) d h))) (ltb→lt (suc m * up e) (2 ^ suc (emax f) * down e) (and-r (a && b && c) d h))
+
+-- ---- times ±1 and plus 0
+module _ (f : Format) (x c : Float) (p : T (finite x)) (i : T (fits f x)) (q : T (finite c)) where
+  pub mul-one-exact : value c ≈q nat 1 → T (finite (mul f x c)) × (value (mul f x c) ≈q value x)
+  mul-one-exact h = rounded-exact (rounded-≈ (mul-rounded f x c p q) (≈-trans (*-cong-r (value x) h) (req (value x ∷ []) (qv 0 ⊠ ## 1) (qv 0) tt tt))) (fits-representable f x p i)
+
+  pub one-mul-exact : value c ≈q nat 1 → T (finite (mul f c x)) × (value (mul f c x) ≈q value x)
+  one-mul-exact h = rounded-exact (rounded-≈ (mul-rounded f c x q p) (≈-trans (*-cong h (≈-refl (value x))) (one-* (value x)))) (fits-representable f x p i)
+
+  pub mul-minus-one-exact : value c ≈q negq (nat 1) → T (finite (mul f x c)) × (value (mul f x c) ≈q negq (value x))
+  mul-minus-one-exact h = rounded-exact (rounded-≈ (mul-rounded f x c p q) (≈-trans (*-cong-r (value x) h) (req (value x ∷ []) (qv 0 ⊠ ⊝ (## 1)) (⊝ (qv 0)) tt tt))) (representable-neg (fits-representable f x p i))
+
+  pub minus-one-mul-exact : value c ≈q negq (nat 1) → T (finite (mul f c x)) × (value (mul f c x) ≈q negq (value x))
+  minus-one-mul-exact h = rounded-exact (rounded-≈ (mul-rounded f c x q p) (≈-trans (*-cong h (≈-refl (value x))) (req (value x ∷ []) (⊝ (## 1) ⊠ qv 0) (⊝ (qv 0)) tt tt))) (representable-neg (fits-representable f x p i))
+
+  pub add-zero-exact : value c ≈q nat 0 → T (finite (add f x c)) × (value (add f x c) ≈q value x)
+  add-zero-exact h = rounded-exact (rounded-≈ (add-rounded f x c p q) (≈-trans (+-cong (≈-refl (value x)) h) (req (value x ∷ []) (qv 0 ⊞ ## 0) (qv 0) tt tt))) (fits-representable f x p i)
 
 -- whole numbers below 2 ^ 53
 pub nat-representable : (f : Format) (n : ℕ) → n < 2 ^ prec f → Representable f (nat n)

@@ -1,37 +1,29 @@
 -- The rounding-error law, in exact fractions: a finite result is within `err` of the exact value, for `round` and for each operation.
-use Prim.Native.Nat.{ℕ, zero, suc, _+_, _-_, _*_, _/_, _%_, _^_, _≤_, _<_, max, zero-le}
+use Prim.Native.Nat.{ℕ, zero, suc, _+_, _-_, _*_, _%_, _^_, _≤_, _<_, max}
 use mathlib.Core.Path.{_≡_, refl, sym, ap, _∙_, subst}
 use mathlib.Core.Logic.{_⊎_, inl, inr}
-use mathlib.Core.List.{List, [], _∷_}
-use mathlib.Core.Bool.{Bool, true, false, not, _&&_, Bool·beq, cond}
+use mathlib.Core.Bool.{Bool, true, false, not, _&&_, cond}
 use native.Mathlib.Nat.{le-trans, le-of-eq, mul-le-mul-right, mul-le-mul-left, mul-pos, max-eq-left, pow-succ', le-of-mul-le-mul-right, eq-zero-or-pos, not-le-of-lt, add-sub-of-le, one-mul, sub-le, add-mul}
 use native.Mathlib.Omega.{arith}
 use lib.Dec.{T, ltb, leb, leb→le, nleb→lt, eqb, ltb→lt, nltb→le, lit≤, eqb→eq}
 use lib.Pow.{pow-add, pow-pos, pow-mono, pow-lt}
 use lib.IntN.{ℤ, pos, negsuc}
-use lib.Ieee.{Float, nan, inf, fin, Format, binary64, prec, emax, low, up, down, unlike, round, sum, neg, add, sub, mul, div, fits}
-use lib.Ieee.Fits.{down-pos, up-pos, two, two-le-pos, and-l, and-r}
+use lib.Ieee.{Float, nan, inf, fin, Format, binary64, prec, emax, low, up, down, unlike, odd, units, round, sum, neg, add, sub, mul, div, fits}
+use lib.Ieee.Order.{kept, drop}
+use lib.Ieee.Fits.{round-is, down-pos, up-pos, two, two-le-pos, and-l, and-r}
 use lib.Ieee.Exact.{HasValue}
 use lib.Ieee.Scale.{grid, overflow, finite}
 use Rattle.exact.specs.Fraction.{ℚ, _//_, nat, _+q_, negq, _-q_, _*q_, _/q_, absq, _≤q_, _≈q_, Within}
-use Rattle.exact.specs.FloatValue.{signed, value, eps, tiny, err}
+use Rattle.exact.specs.FloatValue.{signed, value, eps, tiny, least-normal, err}
 use Rattle.exact.proofs.RoundingGrid.{Apart, pow-pred, grid-near, grid-near-whole, grid-under, half-top, round-under, round-value, value-finite}
-use Rattle.exact.proofs.FractionLaws.{≈-refl, ≈-sym, ≈-trans, +-cong, *-cong, *-comm, ≤-of-≈, ≤-refl, ≤-trans, +-mono, *-mono, neg-cong}
-use Rattle.exact.proofs.FractionProver.{QE, qv, ##, _÷_, _⊞_, _⊟_, _⊠_, ⊝, leq, linq, _⊑_by_}
+use Rattle.exact.proofs.FractionLaws.{max-one, ≈-refl, ≈-sym, ≈-trans, +-cong, ≤-of-≈, ≤-refl, ≤-trans, +-mono, *-mono, neg-cong}
 pub use Rattle.exact.proofs.AbsoluteValue.{abs-neg, abs-mono-≈}
+use Rattle.exact.proofs.AbsoluteValue.{abs-cong}
 use Rattle.exact.proofs.FractionDivision.{div-*}
-use Rattle.exact.proofs.Closeness.{within-≈, within-mono, abs-le, le-abs, neg-le-abs, abs-nonneg}
-
-pub within-neg : {x y e : ℚ} → Within x y e → Within (negq x) (negq y) e
-within-neg {x} {y} {e} w = let ρ = x ∷ y ∷ e ∷ [] in record {
-  above = linq ρ ((qv 1 ⊟ qv 0 ⊑ qv 2 by 1) ∷ []) 0 (⊝ (qv 0) ⊟ ⊝ (qv 1)) (qv 2) tt (w .below);
-  below = linq ρ ((qv 0 ⊟ qv 1 ⊑ qv 2 by 1) ∷ []) 0 (⊝ (qv 1) ⊟ ⊝ (qv 0)) (qv 2) tt (w .above);
-}
+pub use Rattle.exact.proofs.Closeness.{within-neg}
+use Rattle.exact.proofs.Closeness.{within-≈, within-mono}
 
 -- ---- the law for fractions that are not negative
-max-one : (b : ℕ) → 0 < b → max b 1 ≡ b
-max-one b h = omega arith
-
 abs-plain : (n : ℕ) → n - 0 + (0 - n) ≡ n
 abs-plain n = omega arith
 
@@ -82,9 +74,38 @@ value-≈ (fin t m e) s a c C h = subst (λ (s : Bool). signed t (m * up e) (dow
     go true b d D e = record { eq = omega arith }
     go false b d D e = record { eq = omega arith }
 
-signed-neg : (a c : ℕ) (C : 0 < c) → signed true a c C ≈q negq (signed false a c C)
+pub signed-not : (s : Bool) (a c : ℕ) (C : 0 < c) → signed (not s) a c C ≈q negq (signed s a c C)
 unfolding negq
-signed-neg a c C = ≈-refl (signed true a c C)
+signed-not true a c C = ≈-refl (signed false a c C)
+signed-not false a c C = ≈-refl (signed true a c C)
+
+-- ±a / c in size
+pub abs-signed : (s : Bool) (a c : ℕ) (C : 0 < c) → absq (signed s a c C) ≈q signed false a c C
+unfolding absq
+abs-signed false a c C = record { eq = ap (λ (t : ℕ). t * c + 0 * c) (plain a) }
+  where
+    plain : (a : ℕ) → a - 0 + (0 - a) ≡ a
+    plain a = omega arith
+abs-signed true a c C = record { eq = ap (λ (t : ℕ). t * c + 0 * c) (plain a) }
+  where
+    plain : (a : ℕ) → 0 - a + (a - 0) ≡ a
+    plain a = omega arith
+
+-- 1 / k ≤ a / c
+pub above-frac : (a c k : ℕ) (C : 0 < c) → 0 < k → 1 // k ≤q signed false a c C → c ≤ a * k
+unfolding _//_
+above-frac a c k C K h = go (h .le)
+  where
+    go : 1 * c + 0 * max k 1 ≤ a * max k 1 + 0 * c → c ≤ a * k
+    go = rw (max-one k K) (λ (e : 1 * c + 0 * k ≤ a * k + 0 * c). omega arith)
+
+-- the least normal value is 2 ^ (prec - 1) of the smallest
+pub low-places : (f : Format) → 2 ^ low f ≡ 2 ^ (prec f - 1) * 2 ^ (emax f - 1)
+low-places f = ap (λ (t : ℕ). 2 ^ t) (places f) ∙ pow-add 2 (prec f - 1) (emax f - 1)
+  where
+    places : (f : Format) → low f ≡ prec f - 1 + (emax f - 1)
+    places lib.Ieee.Format.binary32 = refl
+    places lib.Ieee.Format.binary64 = refl
 
 -- the two bounds grow with the size of the number
 pub frac-nonneg : (a b : ℕ) → nat 0 ≤q a // b
@@ -109,6 +130,16 @@ module _ (f : Format) (num den : ℕ) (D : 0 < den) where
 
   plain-near-whole : (w : ℕ) → num * 2 ^ low f ≡ w * den → Within (signed false (grid f num den) (2 ^ low f) (pow-pos (low f))) (signed false num den D) (eps f *q absq (signed false num den D))
   plain-near-whole w e = fracs-whole (grid f num den) (2 ^ low f) num den (2 ^ prec f) 0 D (pow-pos (low f)) (pow-pos (prec f)) (grid-near-whole f num den D w e)
+
+  plain-near-normal : least-normal f ≤q signed false num den D → Within (signed false (grid f num den) (2 ^ low f) (pow-pos (low f))) (signed false num den D) (eps f *q absq (signed false num den D))
+  plain-near-normal h =
+      let n = num * 2 ^ low f in
+      let a : 2 ^ (prec f - 1) * den ≤ n = units (2 ^ (prec f - 1)) (2 ^ (emax f - 1)) (2 ^ low f) (low-places f) (above-frac num den (2 ^ (emax f - 1)) D (pow-pos (emax f - 1)) h) in
+      fracs-whole (grid f num den) (2 ^ low f) num den (2 ^ prec f) 0 D (pow-pos (low f)) (pow-pos (prec f))
+      (subst (λ (m : ℕ). Apart (2 ^ prec f * (grid f num den * den)) (2 ^ prec f * n) m) (max-eq-left a) (grid-near f num den D))
+    where
+      units : (p e u : ℕ) → u ≡ p * e → den ≤ num * e → p * den ≤ num * u
+      units p e u i h = le-trans (mul-le-mul-left p h) (le-of-eq (omega (arith, ap (λ (t : ℕ). num * t) i)))
 
 -- with the sign, for a bound B that sees only the size
 both-signs : (B : ℚ → ℚ) → ((x y : ℚ) → absq x ≤q absq y → B x ≤q B y) → (s : Bool) (a c b d : ℕ) (C : 0 < c) (D : 0 < d) → Within (signed false a c C) (signed false b d D) (B (signed false b d D)) → Within (signed s a c C) (signed s b d D) (B (signed s b d D))
@@ -162,6 +193,14 @@ near-grid f x z r g t =
     let w = whole-of (r .sign) (r .num) (r .den) (g .above) (g .below) (2 ^ low f) (r .den-pos) (pow-pos (low f)) (≈-trans (r .val) (≈-sym (g .grid-val))) in
     subst (λ (x : Float). Within (value x) z (eps f *q absq z)) (sym (r .is))
     (round-at f (r .sign) (r .num) (r .den) (r .den-pos) z (r .val) (subst (λ (x : Float). T (finite x)) (r .is) t) (λ z. eps f *q absq z) (rel-mono f) (plain-near-whole f (r .num) (r .den) (r .den-pos) (w .0) (w .1)))
+
+-- from the least normal value on
+pub near-normal : (f : Format) (x : Float) (z : ℚ) → Rounded f x z → least-normal f ≤q absq z → T (finite x) → Within (value x) z (eps f *q absq z)
+near-normal f x z r h t =
+    let s = r .sign in let n = r .num in let d = r .den in
+    let l : least-normal f ≤q signed false n d (r .den-pos) = ≤-trans h (≤-of-≈ (≈-trans (abs-cong (≈-sym (r .val))) (abs-signed s n d (r .den-pos)))) in
+    subst (λ (x : Float). Within (value x) z (eps f *q absq z)) (sym (r .is))
+    (round-at f s n d (r .den-pos) z (r .val) (subst (λ (x : Float). T (finite x)) (r .is) t) (λ z. eps f *q absq z) (rel-mono f) (plain-near-normal f n d (r .den-pos) l))
 
 -- finite, where |z| ≤ 2 ^ 1023
 under-top : (f : Format) (num den : ℕ) → 0 < den → num ≤ 2 ^ emax f * den → num * 2 ^ low f + den * 2 ^ half-top f < overflow f * den
@@ -281,6 +320,33 @@ value-neg (inf s) = ≈-refl (nat 0)
 value-neg (fin true m e) = ≈-refl (negq (value (fin true m e)))
 value-neg (fin false m e) = ≈-refl (negq (value (fin false m e)))
 
+-- what is rounded with the other sign
+neg-odd : (d : ℕ) (s : Bool) (q k l : ℕ) → neg (odd d s q k l) ≡ odd d (not s) q k l
+unfolding neg odd
+neg-odd d s zero k l = refl
+neg-odd d s (suc q) k l = refl
+
+neg-units : (f : Format) (s : Bool) (q k : ℕ) → neg (units f s q k) ≡ units f (not s) q k
+unfolding units
+neg-units f s q k = go (ltb (q * 2 ^ k) (overflow f))
+  where
+    go : (b : Bool) → neg (cond b (odd (suc (prec f)) s q k (low f)) (inf s)) ≡ cond b (odd (suc (prec f)) (not s) q k (low f)) (inf (not s))
+    go true = neg-odd (suc (prec f)) s q k (low f)
+    go false = unfold neg in refl
+
+pub neg-round : (f : Format) (s : Bool) (a c : ℕ) → neg (round f s a c) ≡ round f (not s) a c
+neg-round f s a c = ap neg (round-is f s a c) ∙ neg-units f s (kept (prec f) (a * 2 ^ low f) c) (drop (prec f) (a * 2 ^ low f) c) ∙ sym (round-is f (not s) a c)
+
+pub rounded-neg : {f : Format} {x : Float} {z : ℚ} → Rounded f x z → Rounded f (neg x) (negq z)
+rounded-neg {f} {x} {z} r = record {
+  sign = not (r .sign);
+  num = r .num;
+  den = r .den;
+  den-pos = r .den-pos;
+  is = ap neg (r .is) ∙ neg-round f (r .sign) (r .num) (r .den);
+  val = ≈-trans (signed-not (r .sign) (r .num) (r .den) (r .den-pos)) (neg-cong (r .val));
+}
+
 pub rounded-≈ : {f : Format} {x : Float} {z w : ℚ} → Rounded f x z → z ≈q w → Rounded f x w
 rounded-≈ r e = record { sign = r .sign; num = r .num; den = r .den; den-pos = r .den-pos; is = r .is; val = ≈-trans (r .val) e }
 
@@ -371,9 +437,9 @@ grid-+ {f} {x} {y} g h = record { above = g .above + h .above; below = g .below 
 pub grid-neg : {f : Format} {x : ℚ} → OnGrid f x → OnGrid f (negq x)
 grid-neg {f} {x} g = record { above = g .below; below = g .above; grid-val = neg-at (g .above) (g .below) (2 ^ low f) (pow-pos (low f)) (g .grid-val) }
 
-pub grid-- : {f : Format} {x y : ℚ} → OnGrid f x → OnGrid f y → OnGrid f (x -q y)
+pub grid-minus : {f : Format} {x y : ℚ} → OnGrid f x → OnGrid f y → OnGrid f (x -q y)
 unfolding _-q_
-grid-- g h = grid-+ g (grid-neg h)
+grid-minus g h = grid-+ g (grid-neg h)
 
 -- the law for sums: |x - (a + b)| ≤ 2 ^ -53 |a + b|
 pub add-near : (f : Format) (x y : Float) → T (finite x) → T (finite y) → T (fits f x) → T (fits f y) → T (finite (add f x y)) → Within (value (add f x y)) (value x +q value y) (eps f *q absq (value x +q value y))
@@ -381,7 +447,7 @@ add-near f x y p q a b t = near-grid f (add f x y) (value x +q value y) (add-rou
 
 -- and for differences
 pub sub-near : (f : Format) (x y : Float) → T (finite x) → T (finite y) → T (fits f x) → T (fits f y) → T (finite (sub f x y)) → Within (value (sub f x y)) (value x -q value y) (eps f *q absq (value x -q value y))
-sub-near f x y p q a b t = near-grid f (sub f x y) (value x -q value y) (sub-rounded f x y p q) (grid-- (fits-grid f x p a) (fits-grid f y q b)) t
+sub-near f x y p q a b t = near-grid f (sub f x y) (value x -q value y) (sub-rounded f x y p q) (grid-minus (fits-grid f x p a) (fits-grid f y q b)) t
 
 pub mul-near : (f : Format) (x y : Float) → T (finite x) → T (finite y) → T (finite (mul f x y)) → Within (value (mul f x y)) (value x *q value y) (err f (value x *q value y))
 mul-near f x y p q t = near f (mul f x y) (value x *q value y) (mul-rounded f x y p q) t

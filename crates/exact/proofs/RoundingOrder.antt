@@ -1,27 +1,27 @@
 -- Rounding keeps the order: of two fractions the larger rounds to a value that is no smaller. So a rounded result does not cross a number that the format holds,
 -- and it is finite where the exact result is at most such a number in size.
-use Prim.Native.Nat.{ℕ, zero, suc, _+_, _-_, _*_, _^_, _≤_, _<_}
+use Prim.Native.Nat.{ℕ, suc, _+_, _*_, _^_, _≤_, _<_}
 use mathlib.Core.Path.{_≡_, refl, sym, ap, _∙_, subst}
-use mathlib.Core.Logic.{_⊎_, inl, inr}
-use mathlib.Core.List.{List, [], _∷_}
-use mathlib.Core.Bool.{Bool, true, false, not, _&&_, _||_, cond}
-use native.Mathlib.Nat.{le-trans, le-of-eq, lt-of-le-of-lt, mul-pos, mul-le-mul-right, le-of-mul-le-mul-right, eq-zero-or-pos, zero-mul}
+use mathlib.Core.Logic.{inl, inr}
+use mathlib.Core.List.{[], _∷_}
+use mathlib.Core.Bool.{Bool, true, false, cond}
+use native.Mathlib.Nat.{lt-of-le-of-lt, mul-pos, mul-le-mul-right, le-of-mul-le-mul-right, eq-zero-or-pos, zero-mul}
 use native.Mathlib.Omega.{arith}
-use lib.Dec.{T, ltb, ltb→lt}
+use lib.Dec.{T, ltb}
 use lib.Pow.{pow-pos}
-use lib.Ieee.{Float, nan, inf, fin, Format, prec, emax, low, odd, units, round, le, lt, eq, fits}
+use lib.Ieee.{Float, nan, inf, fin, Format, prec, low, odd, units, round, le, lt, eq, fits}
 use lib.Ieee.Fits.{round-is}
-use lib.Ieee.Exact.{HasValue, odd-sign}
+use lib.Ieee.Exact.{odd-sign}
 use lib.Ieee.Order.{kept, drop, round-mono}
 use lib.Ieee.Scale.{grid, overflow, finite}
-use Rattle.exact.specs.Fraction.{ℚ, _//_, nat, _+q_, negq, _-q_, _*q_, absq, _≤q_, _<q_, _≈q_}
+use Rattle.exact.specs.Fraction.{ℚ, nat, negq, absq, _≤q_, _≈q_}
 use Rattle.exact.specs.FloatValue.{signed, value}
-use Rattle.exact.proofs.FractionLaws.{≈-refl, ≈-sym, ≈-trans, ≤-of-≈, ≤-refl, ≤-trans, ≤-antisym, neg-mono}
-use Rattle.exact.proofs.FractionProver.{qv, ##, _⊞_, _⊟_, _⊠_, ⊝, linq, _⊑_by_}
-use Rattle.exact.proofs.StrictOrder.{≤-≈, ≤-or-≤}
-use Rattle.exact.proofs.AbsoluteValue.{le-abs, neg-le-abs, abs-le, abs-mono-≈, abs-cong, abs-cases, abs-of-nonneg, abs-of-nonpos, abs-nonneg, abs-between, neg-le-of-abs, le-of-abs}
+use Rattle.exact.proofs.FractionLaws.{≈-sym, ≈-trans, ≤-of-≈, ≤-trans, ≤-antisym}
+use Rattle.exact.proofs.FractionProver.{qv, ⊝, linq, _⊑_by_}
+use Rattle.exact.proofs.StrictOrder.{≤-≈}
+use Rattle.exact.proofs.AbsoluteValue.{le-abs, neg-le-abs, abs-cong, abs-cases, abs-between, neg-le-of-abs, le-of-abs}
 use Rattle.exact.proofs.RoundingGrid.{grid-near-whole, round-under, round-value, value-finite}
-use Rattle.exact.proofs.Rounding.{Rounded, value-≈}
+use Rattle.exact.proofs.Rounding.{Rounded, value-≈, abs-signed}
 use Rattle.exact.proofs.Comparisons.{le→≤}
 use Rattle.exact.proofs.Representable.{Representable, representable-neg, rounded-exact, fits-representable, nat-representable}
 
@@ -119,17 +119,6 @@ module _ {f : Format} {x : Float} {z w : ℚ} (r : Rounded f x z) (t : T (finite
   rounded-≥ l = let e = rounded-exact (itself h) h in ≤-trans (≤-of-≈ (≈-sym (e .1))) (rounded-mono (itself h) r (e .0) t l)
 
 -- in size
-abs-signed : (s : Bool) (a c : ℕ) (C : 0 < c) → absq (signed s a c C) ≈q signed false a c C
-unfolding absq
-abs-signed false a c C = record { eq = ap (λ (t : ℕ). t * c + 0 * c) (plain a) }
-  where
-    plain : (a : ℕ) → a - 0 + (0 - a) ≡ a
-    plain a = omega arith
-abs-signed true a c C = record { eq = ap (λ (t : ℕ). t * c + 0 * c) (plain a) }
-  where
-    plain : (a : ℕ) → 0 - a + (a - 0) ≡ a
-    plain a = omega arith
-
 pub rounded-finite : {f : Format} {x : Float} {z w : ℚ} → Rounded f x z → Representable f w → absq z ≤q absq w → T (finite x)
 rounded-finite {f} {x} {z} {w} r h l =
     let e = rounded-exact (itself h) h in

@@ -1,16 +1,15 @@
 -- The strict order of the exact fractions: x < y is what y ≤ x is not, and what it does in sums, products and tests.
-use Prim.Native.Nat.{ℕ, zero, suc, _+_, _-_, _*_, _^_, _≤_, _<_, max}
-use mathlib.Core.Path.{_≡_, refl, sym, ap, subst}
-use mathlib.Core.List.{List, [], _∷_}
+use Prim.Native.Nat.{ℕ, suc, _+_, _*_, _≤_, _<_}
+use mathlib.Core.Path.{subst}
+use mathlib.Core.List.{[], _∷_}
 use mathlib.Core.Logic.{_⊎_, inl, inr}
 use mathlib.Core.Bool.{Bool, true, false, not}
-use native.Mathlib.Nat.{mul-pos, le-of-lt, lt-of-not-le, not-le-of-lt, le-of-mul-le-mul-right, le-dest}
+use native.Mathlib.Nat.{mul-pos, le-of-lt, le-of-mul-le-mul-right, le-dest}
 use native.Mathlib.Omega.{arith}
-use lib.Dec.{T, leb, ltb, leb→le, nleb→lt, ltb→lt, lt→ltb, le→leb, eqb, eqb→eq}
-use lib.Arith.{lt-of-le-ne}
-use Rattle.exact.specs.Fraction.{ℚ, _//_, nat, _+q_, negq, _-q_, _*q_, absq, _≤q_, _<q_, _≈q_, leqb, ltqb, one-or-more}
-use Rattle.exact.proofs.FractionLaws.{≈-refl, ≈-sym, ≈-trans, *-comm, *-cong, ≤-of-≈, ≤-refl, ≤-trans, ≤-antisym, +-mono, *-mono, neg-mono}
-use Rattle.exact.proofs.FractionProver.{QE, qv, ##, _÷_, _⊞_, _⊟_, _⊠_, ⊝, leq, req, linq, _⊑_by_}
+use lib.Dec.{T, leb, leb→le, nleb→lt, ltb→lt}
+use Rattle.exact.specs.Fraction.{ℚ, _//_, nat, _+q_, negq, _-q_, _*q_, _≤q_, _<q_, _≈q_, leqb, ltqb, one-or-more}
+use Rattle.exact.proofs.FractionLaws.{≈-sym, ≤-of-≈, ≤-refl, ≤-trans, ≤-antisym, *-mono}
+use Rattle.exact.proofs.FractionProver.{qv, ##, _⊞_, _⊟_, _⊠_, ⊝, leq, linq, _⊑_by_}
 
 -- ---- against the weak order
 pub ≤-of-< : {x y : ℚ} → x <q y → x ≤q y

@@ -1,5 +1,5 @@
 -- binary64's operators under short names, one rounding each, and the methods of Rust's f64 that the model calls.
-use mathlib.Core.Bool.{Bool, true, false, cond}
+use mathlib.Core.Bool.{Bool, false, cond}
 use lib.Ieee.{Float, nan, inf, fin, binary64, add, sub, mul, div, lt, le, eq, ne, ofBits}
 
 infixl 6 _⊕_ _⊖_

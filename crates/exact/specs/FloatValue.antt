@@ -1,7 +1,6 @@
 -- A float's exact value, and how far a rounded result may be from the exact one.
-use Prim.Native.Nat.{ℕ, suc, _+_, _*_, _^_, _<_}
+use Prim.Native.Nat.{ℕ, suc, _-_, _*_, _^_, _<_}
 use mathlib.Core.Bool.{Bool, cond}
-use native.Mathlib.Nat.{zero-lt-suc}
 use lib.Ieee.{Float, nan, inf, fin, Format, prec, emax, low, up, down}
 use lib.Ieee.Fits.{down-pos}
 use Rattle.exact.specs.Fraction.{ℚ, _//_, nat, _+q_, _*q_, absq}
@@ -23,6 +22,10 @@ eps f = 1 // 2 ^ prec f
 
 abbrev pub tiny : Format → ℚ
 tiny f = 1 // 2 ^ suc (low f)
+
+-- the least normal value, 2 ^ -1022: from it on a rounded result has no absolute part in its error
+abbrev pub least-normal : Format → ℚ
+least-normal f = 1 // 2 ^ (emax f - 1)
 
 -- the error of a rounded result, by the exact one
 abbrev pub err : Format → ℚ → ℚ

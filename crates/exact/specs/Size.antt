@@ -2,7 +2,7 @@
 use Prim.Native.Nat.{ℕ, _^_}
 use mathlib.Core.Bool.{Bool, false, _&&_, cond}
 use lib.Dec.{T, leb}
-use lib.IntN.{ℤ, pos, negsuc, negℤ}
+use lib.IntN.{ℤ, pos, negℤ}
 use lib.Signed.{leZ}
 use lib.Ieee.{Float, binary64, low, emax, up, down}
 use lib.Ieee.Fits.{down-pos}

@@ -1,11 +1,11 @@
 -- The float of a pattern that `assembled` makes. Assumes nothing.
 use mathlib.Core.Path.{_≡_, refl, sym, ap, _∙_, subst}
-use mathlib.Core.Bool.{Bool, true, false, cond}
-use Prim.Native.Nat.{ℕ, zero, suc, _+_, _-_, _*_, _/_, _%_, _^_, _≤_, _<_}
-use native.Mathlib.Nat.{le-refl, le-trans, le-of-eq, lt-of-not-le, mul-assoc, mul-comm, mul-left-comm, mul-le-mul-left, mul-le-mul-right, mul-add, add-comm, eq-of-mul-eq-mul-right}
+use mathlib.Core.Bool.{Bool, false, cond}
+use Prim.Native.Nat.{ℕ, _+_, _-_, _*_, _/_, _%_, _^_, _≤_, _<_}
+use native.Mathlib.Nat.{le-trans, le-of-eq, lt-of-not-le, mul-assoc, mul-comm, mul-le-mul-left, mul-add, mul-one, add-zero, eq-of-mul-eq-mul-right}
 use native.Mathlib.Decide.{decLe}
 use native.Mathlib.Omega.{arith}
-use lib.Dec.{T, ltb, lit<}
+use lib.Dec.{ltb}
 use lib.Pow.{pow-add, pow-pos}
 use lib.Ieee.{Float, nan, inf, fin, binary64, ofBits, up, down}
 use lib.Ieee.Exact.{HasValue}
@@ -39,7 +39,7 @@ smaller (fin t m e) s k v = (
 )
   where
     sort : (s p q d : ℕ) → s * (p * q) * d ≡ s * p * d * q
-    sort s p q d = simp (mul-assoc, mul-comm, mul-left-comm) refl
+    sort s p q d = omega arith
 
 at : (s k : ℕ) → 2 ^ 52 ≤ s → s < 2 ^ 53 → k ≤ 1011 → HasValue (ofBits binary64 ((k + 1022) * 2 ^ 52 + s)) false (s * 2 ^ k) (2 ^ 52)
 at s k lo hi h = smaller (ofBits binary64 ((k + 1022) * 2 ^ 52 + s)) s k (subst (λ (n : ℕ). HasValue (ofBits binary64 ((k + 1022) * 2 ^ 52 + s)) false n (2 ^ 1074)) (units-at s (k + 1022) lo hi) (value ((k + 1022) * 2 ^ 52 + s) (small s k hi h)))
@@ -50,67 +50,42 @@ at s k lo hi h = smaller (ofBits binary64 ((k + 1022) * 2 ^ 52 + s)) s k (subst 
 pub record Held (m k : ℕ) (r : Float) : Type 0 where
   pub w : ℕ
   pub is : HasValue r false w (2 ^ 52)
+  pub large : 2 ^ 52 ≤ w
   pub under : w * 2 ^ 10 ≤ 2 ^ k * m
   pub over : 2 ^ k * m ≤ w * 2 ^ 10 + 2 ^ 11 * 2 ^ k
+
+-- times a power of two
+not-less : (s j : ℕ) → 2 ^ 52 ≤ s → 2 ^ 52 ≤ s * 2 ^ j
+not-less s j h = le-trans h (le-trans (le-of-eq (sym (mul-one s))) (mul-le-mul-left s (pow-pos j)))
+
+-- s is m / q cut to a whole number of 53 digits, for q = 2^10 or 2^11
+held-at : (m k d q s : ℕ) → s * q ≤ m → m ≤ s * q + 2 ^ 11 → 2 ^ 10 * 2 ^ d ≡ q → 2 ^ 52 ≤ s → s < 2 ^ 53 → k + d ≤ 1011 → Held m k (ofBits binary64 ((k + d + 1022) * 2 ^ 52 + s))
+held-at m k d q s cut rest e low high h = record {
+  w = s * 2 ^ (k + d);
+  is = at s (k + d) low high h;
+  large = not-less s (k + d) low;
+  under = le-trans (le-of-eq moved) (mul-le-mul-left (2 ^ k) cut);
+  over = le-trans (mul-le-mul-left (2 ^ k) rest) (le-of-eq (mul-add (2 ^ k) (s * q) (2 ^ 11) ∙ (λ i. sym moved i + mul-comm (2 ^ k) (2 ^ 11) i)));
+}
+  where
+    sort : (s p r t : ℕ) → s * (p * r) * t ≡ p * (s * (t * r))
+    sort s p r t = omega arith
+
+    moved : s * 2 ^ (k + d) * 2 ^ 10 ≡ 2 ^ k * (s * q)
+    moved = ap (λ (z : ℕ). s * z * 2 ^ 10) (pow-add 2 k d) ∙ sort s (2 ^ k) (2 ^ d) (2 ^ 10) ∙ ap (λ (z : ℕ). 2 ^ k * (s * z)) e
 
 pub held : (m k : ℕ) → 2 ^ 62 ≤ m → m < 2 ^ 64 → k ≤ 1010 → Held m k (ofBits binary64 (patternOf m k))
 unfolding patternOf
 held m k lo hi h = either (decLe (2 ^ 63) m)
   where
-    sort : (s p q : ℕ) → s * p * q ≡ p * (s * q)
-    sort s p q = simp (mul-assoc, mul-comm, mul-left-comm) refl
+    shown : (t : Bool) → Type 0
+    shown t = Held m k (ofBits binary64 (cond t ((k + 1022) * 2 ^ 52 + m / 2 ^ 10) ((k + 1023) * 2 ^ 52 + m / 2 ^ 11)))
 
     either : Dec (2 ^ 63 ≤ m) → Held m k (ofBits binary64 (cond (ltb m (2 ^ 63)) ((k + 1022) * 2 ^ 52 + m / 2 ^ 10) ((k + 1023) * 2 ^ 52 + m / 2 ^ 11)))
-    either (yes g) =
-        subst (λ (t : Bool). Held m k (ofBits binary64 (cond t ((k + 1022) * 2 ^ 52 + m / 2 ^ 10) ((k + 1023) * 2 ^ 52 + m / 2 ^ 11)))) (sym (le-ltb m (2 ^ 63) g))
-        (record {
-          w = m / 2 ^ 11 * 2 ^ (k + 1);
-          is = subst (λ (z : ℕ). HasValue (ofBits binary64 (z * 2 ^ 52 + m / 2 ^ 11)) false (m / 2 ^ 11 * 2 ^ (k + 1)) (2 ^ 52)) (next k) (at (m / 2 ^ 11) (k + 1) (low m g) (high m hi) (more k h));
-          under = le-trans (le-of-eq (sort' m)) (mul-le-mul-left (2 ^ k) (cut m));
-          over = le-trans (mul-le-mul-left (2 ^ k) (rest m)) (le-of-eq (mul-add (2 ^ k) (m / 2 ^ 11 * 2 ^ 11) (2 ^ 11) ∙ (λ i. sym (sort' m) i + mul-comm (2 ^ k) (2 ^ 11) i)));
-        })
+    either (yes g) = subst shown (sym (le-ltb m (2 ^ 63) g)) (subst (λ (z : ℕ). Held m k (ofBits binary64 (z * 2 ^ 52 + m / 2 ^ 11))) (next k) (held-at m k 1 (2 ^ 11) (m / 2 ^ 11) (omega arith) (omega arith) refl (omega arith) (omega arith) (omega arith)))
       where
         next : (k : ℕ) → k + 1 + 1022 ≡ k + 1023
         next k = omega arith
-
-        low : (m : ℕ) → 2 ^ 63 ≤ m → 2 ^ 52 ≤ m / 2 ^ 11
-        low m h = omega arith
-
-        high : (m : ℕ) → m < 2 ^ 64 → m / 2 ^ 11 < 2 ^ 53
-        high m h = omega arith
-
-        more : (k : ℕ) → k ≤ 1010 → k + 1 ≤ 1011
-        more k h = omega arith
-
-        cut : (m : ℕ) → m / 2 ^ 11 * 2 ^ 11 ≤ m
-        cut m = omega arith
-
-        rest : (m : ℕ) → m ≤ m / 2 ^ 11 * 2 ^ 11 + 2 ^ 11
-        rest m = omega arith
-
-        sort' : (m : ℕ) → m / 2 ^ 11 * 2 ^ (k + 1) * 2 ^ 10 ≡ 2 ^ k * (m / 2 ^ 11 * 2 ^ 11)
-        sort' m = ap (λ (z : ℕ). m / 2 ^ 11 * z * 2 ^ 10) (pow-add 2 k 1) ∙ mul-assoc (m / 2 ^ 11) (2 ^ k * 2) (2 ^ 10) ∙ ap (λ (z : ℕ). m / 2 ^ 11 * z) (mul-assoc (2 ^ k) 2 (2 ^ 10)) ∙ mul-left-comm (m / 2 ^ 11) (2 ^ k) (2 ^ 11)
     either (no f) =
         let g : m < 2 ^ 63 = lt-of-not-le f in
-        subst (λ (t : Bool). Held m k (ofBits binary64 (cond t ((k + 1022) * 2 ^ 52 + m / 2 ^ 10) ((k + 1023) * 2 ^ 52 + m / 2 ^ 11)))) (sym (lt-ltb m (2 ^ 63) g))
-        (record {
-          w = m / 2 ^ 10 * 2 ^ k;
-          is = at (m / 2 ^ 10) k (low m lo) (high m g) (more k h);
-          under = le-trans (le-of-eq (sort (m / 2 ^ 10) (2 ^ k) (2 ^ 10))) (mul-le-mul-left (2 ^ k) (cut m));
-          over = le-trans (mul-le-mul-left (2 ^ k) (rest m)) (le-of-eq (mul-add (2 ^ k) (m / 2 ^ 10 * 2 ^ 10) (2 ^ 11) ∙ (λ i. sym (sort (m / 2 ^ 10) (2 ^ k) (2 ^ 10)) i + mul-comm (2 ^ k) (2 ^ 11) i)));
-        })
-      where
-        low : (m : ℕ) → 2 ^ 62 ≤ m → 2 ^ 52 ≤ m / 2 ^ 10
-        low m h = omega arith
-
-        high : (m : ℕ) → m < 2 ^ 63 → m / 2 ^ 10 < 2 ^ 53
-        high m h = omega arith
-
-        more : (k : ℕ) → k ≤ 1010 → k ≤ 1011
-        more k h = omega arith
-
-        cut : (m : ℕ) → m / 2 ^ 10 * 2 ^ 10 ≤ m
-        cut m = omega arith
-
-        rest : (m : ℕ) → m ≤ m / 2 ^ 10 * 2 ^ 10 + 2 ^ 11
-        rest m = omega arith
+        subst shown (sym (lt-ltb m (2 ^ 63) g)) (subst (λ (z : ℕ). Held m k (ofBits binary64 ((z + 1022) * 2 ^ 52 + m / 2 ^ 10))) (add-zero k) (held-at m k 0 (2 ^ 10) (m / 2 ^ 10) (omega arith) (omega arith) refl (omega arith) (omega arith) (omega arith)))

@@ -1,19 +1,24 @@
 -- A float above zero and at most 700, times 2^53, cut to a whole number. Assumes nothing.
 use mathlib.Core.Path.{_≡_, refl, sym, ap, _∙_, subst}
-use mathlib.Core.Bool.{Bool, true, false, cond, not, _&&_}
-use Prim.Native.Nat.{ℕ, zero, suc, _+_, _-_, _*_, _/_, _%_, _^_, _≤_, _<_, min}
-use native.Mathlib.Nat.{le-refl, le-trans, le-of-eq, le-of-lt, lt-of-le-of-lt, lt-of-lt-of-le, zero-lt-suc, mul-assoc, mul-comm, mul-left-comm, mul-right-comm, mul-one, one-mul, mul-pos, mul-le-mul-left, mul-le-mul-right, le-add-right, mul-lt-mul-of-pos-right, div-mul-le-self, div-le-of-le-mul, lt-div-mul-add, add-mul, min-eq-left, sub-add-cancel, lt-of-not-le, not-le-of-lt, div-lt-iff-lt-mul, le-of-mul-le-mul-right, lt-of-mul-lt-mul-right}
+use mathlib.Core.Bool.{true, false, _&&_}
+use Prim.Native.Nat.{ℕ, zero, suc, _+_, _-_, _*_, _/_, _%_, _^_, _≤_, _<_}
+use native.Mathlib.Nat.{le-trans, le-of-eq, le-of-lt, lt-of-le-of-lt, lt-of-lt-of-le, zero-lt-suc, mul-assoc, mul-comm, mul-right-comm, mul-one, one-mul, mul-pos, mul-le-mul-right, le-add-right, mul-lt-mul-of-pos-right, div-mul-le-self, div-le-of-le-mul, lt-div-mul-add, add-mul, min-eq-left, sub-add-cancel, lt-of-not-le, not-le-of-lt, le-of-mul-le-mul-right, lt-of-mul-lt-mul-right}
 use native.Mathlib.Decide.{decLe}
 use native.Mathlib.Omega.{arith}
 use lib.IntN.{ℤ, pos, negsuc}
-use lib.Dec.{T, leb, ltb, eqb, ltb→lt, leb→le, le→leb, lt→ltb, lit<, lit≤}
-use lib.Pow.{pow-pos, pow-add, pow-mono, pow-lt}
+use lib.Dec.{T, leb, ltb, eqb, ltb→lt, leb→le, lt→ltb, lit<, lit≤}
+use lib.Pow.{pow-pos, pow-add, pow-lt}
 use lib.Ieee.{Float, nan, inf, fin, binary64, up, down, fits, le, lt, mul, round, toUnsigned, ofBits}
 use lib.Ieee.Fits.{and-l, and-r}
 use lib.Ieee.Exact.{HasValue, round-exact}
 use lib.Ieee.Nearest.{div-same}
 use lib.Ieee.Positive.{num, den, positive, den-pos, own-value, mul-at, values-of-le}
-use Rattle.exponential.specs.Exponential.{greatest, unit}
+use Rattle.exponential.specs.Exponential.{greatest, unit, fixedOf}
+use Rattle.exact.specs.Fraction.{_//_, _≤q_}
+use Rattle.exact.specs.FloatValue.{value}
+use Rattle.exact.proofs.FractionLaws.{≈-sym, ≤-of-≈, ≤-trans}
+use Rattle.series.proofs.Quotients.{frac-≤}
+use Rattle.exponential.proofs.FixedPoint.{value-is}
 
 -- what `fits` says of the exponent: down e is at most 2 ^ 1074
 low-enough : (m : ℕ) (e : ℤ) → T (fits binary64 (fin false (suc m) e)) → (suc m < 2 ^ 53) × (down e ≤ 2 ^ 1074)
@@ -119,3 +124,13 @@ module _ (x : Float) (f : T (fits binary64 x)) (p : T (positive x)) (q : T (le x
 
   pub limits : T (lt (fin true 1 (pos 0)) (mul binary64 x unit)) × T (lt (mul binary64 x unit) (fin false 1 (pos 64)))
   limits = limits-of (mul binary64 x unit) (subst (λ (y : Float). HasValue y false (num x * 2 ^ 53) (den x * 1)) (sym product) exactly)
+
+-- ---- in exact values
+pub fixed-bounds : (x : Float) → T (fits binary64 x) → T (positive x) → T (le x greatest) → (fixedOf x ≤ 700 * 2 ^ 53) × (fixedOf x // 2 ^ 53 ≤q value x) × (value x ≤q (fixedOf x + 1) // 2 ^ 53)
+fixed-bounds x f p q =
+    let b = bounds x f p q (fixedOf x) refl in
+    let e = value-is x (num x) (den x) (den-pos x) (own-value x p) in (
+      b .0,
+      ≤-trans (frac-≤ (fixedOf x) (num x) (pow-pos 53) (den-pos x) (b .1)) (≤-of-≈ (≈-sym e)),
+      ≤-trans (≤-of-≈ e) (frac-≤ (num x) (fixedOf x + 1) (den-pos x) (pow-pos 53) (b .2)),
+    )

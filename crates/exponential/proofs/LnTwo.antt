@@ -1,19 +1,18 @@
 -- The powers of two: Λ / 2^64 is ln 2 within 2^-64, and e^(k Λ / 2^64) is 2^k but for k parts in 2^63. Assumes nothing.
-use mathlib.Core.Path.{_≡_, refl, sym, ap, _∙_, subst}
-use Prim.Native.Nat.{ℕ, zero, suc, _+_, _-_, _*_, _^_, _≤_, _<_}
-use native.Mathlib.Nat.{le-refl, le-trans, le-of-eq, mul-assoc, mul-comm, mul-left-comm, mul-mul-mul-comm, mul-add, add-mul, add-le-add, mul-le-mul, mul-le-mul-left, mul-le-mul-right, le-add-right, one-mul, mul-one, mul-pos, zero-lt-suc, suc-mul, mul-suc, zero-add, pow-zero, pow-succ', le-of-mul-le-mul-right}
+use mathlib.Core.Path.{_≡_, sym, ap, _∙_}
+use Prim.Native.Nat.{ℕ, zero, suc, _+_, _-_, _*_, _^_, _≤_}
+use native.Mathlib.Nat.{le-refl, le-trans, le-of-eq, mul-assoc, mul-left-comm, add-le-add, mul-le-mul-left, suc-mul, mul-suc, zero-add, pow-zero, pow-succ'}
 use native.Mathlib.Omega.{arith}
 use lib.Dec.{T, leb, leb→le, lit≤, lit<}
-use lib.Pow.{pow-pos}
 use Rattle.series.specs.Series.{top, bot}
 use Rattle.series.proofs.Product.{bot-pos}
-use Rattle.series.proofs.Bounds.{Up, Lo, crown, up-crown, up-weaken, lo-weaken, up-pow, lo-pow}
+use Rattle.series.proofs.Bounds.{Up, Lo, doubled, up-doubled, up-weaken}
 
 abbrev pub Λ : ℕ
 Λ = 12786308645202655659
 
-up-test : T (leb (crown 24 Λ (2 ^ 64) * 1) (2 * bot 25 (2 ^ 64)))
-unfolding crown top bot
+up-test : T (leb (doubled 24 Λ (2 ^ 64) * 1) (2 * bot 25 (2 ^ 64)))
+unfolding doubled top bot
 up-test = tt
 
 lo-test : T (leb (2 * (2 ^ 63 - 1) * bot 24 (2 ^ 64)) (top 24 Λ (2 ^ 64) * 2 ^ 63))
@@ -21,7 +20,7 @@ unfolding top bot
 lo-test = tt
 
 pub up-two : Up Λ (2 ^ 64) 2 1
-up-two = up-weaken (bot-pos 25 (2 ^ 64) (lit< tt)) (leb→le (crown 24 Λ (2 ^ 64) * 1) (2 * bot 25 (2 ^ 64)) up-test) (up-crown 24 Λ (2 ^ 64) (lit< tt) (lit≤ tt))
+up-two = up-weaken (bot-pos 25 (2 ^ 64) (lit< tt)) (leb→le (doubled 24 Λ (2 ^ 64) * 1) (2 * bot 25 (2 ^ 64)) up-test) (up-doubled 24 Λ (2 ^ 64) (lit< tt) (lit≤ tt))
 
 pub lo-two : Lo Λ (2 ^ 64) (2 * (2 ^ 63 - 1)) (2 ^ 63)
 lo-two = record { terms = 24; bound = leb→le (2 * (2 ^ 63 - 1) * bot 24 (2 ^ 64)) (top 24 Λ (2 ^ 64) * 2 ^ 63) lo-test }

@@ -1,18 +1,18 @@
 -- `mantOf r`, in units of 2^-62, is e^(r / 2^64) within 512 units, for r below 23 * 2^59. Assumes nothing.
-use mathlib.Core.Path.{_≡_, refl, sym, ap, _∙_, subst}
-use mathlib.Core.Bool.{Bool, true, false}
-use mathlib.Core.List.{List, [], _∷_}
-use Prim.Native.Nat.{ℕ, zero, suc, _+_, _-_, _*_, _/_, _%_, _^_, _≤_, _<_}
-use native.Mathlib.Nat.{le-refl, le-trans, le-of-eq, le-of-lt, lt-of-lt-of-le, lt-of-le-of-lt, lt-div-mul-add, div-mul-le-self, div-add-mod', mod-lt, add-assoc, add-comm, add-left-comm, mul-assoc, mul-comm, mul-left-comm, mul-mul-mul-comm, mul-add, add-mul, add-le-add, mul-le-mul, mul-le-mul-left, mul-le-mul-right, le-add-right, one-mul, mul-one, mul-pos}
+use mathlib.Core.Path.{refl, sym, ap, _∙_, subst}
+use mathlib.Core.Bool.{Bool}
+use Prim.Native.Nat.{ℕ, _+_, _*_, _/_, _%_, _^_, _≤_, _<_}
+use native.Mathlib.Nat.{le-trans, le-of-eq, le-of-lt, lt-div-mul-add, div-mul-le-self, div-add-mod', mod-lt, mul-assoc, mul-add, add-mul, add-le-add, mul-le-mul-right, le-add-right, one-mul}
 use native.Mathlib.Omega.{arith}
-use lib.Dec.{T, leb, ltb, leb→le, ltb→lt, lit≤, lit<}
+use lib.Dec.{T, leb, ltb, leb→le, ltb→lt, lit<}
 use lib.Pow.{pow-pos}
-use lib.ListN.{length, getD}
+use lib.ListN.{getD}
 use Rattle.series.specs.Series.{top, bot}
-use Rattle.exponential.specs.Mantissa.{hi, horner, mantOf, expTable}
+use Rattle.exponential.specs.Mantissa.{hi, minusOne, mantOf, expTable}
 use Rattle.series.proofs.Product.{bot-pos}
-use Rattle.series.proofs.Bounds.{Up, Lo, crown, up-crown, up-weaken, lo-weaken, up-add, lo-add}
-use Rattle.exponential.proofs.Horner.{horner-le, small-lo, small-up}
+use Rattle.series.proofs.Bounds.{Up, Lo, doubled, up-doubled, up-weaken, lo-weaken, up-add, lo-add}
+use Rattle.exponential.proofs.Horner.{minusOne-le, small-lo, small-up}
+use Rattle.exponential.proofs.Steps.{halves-lt}
 use Rattle.exponential.proofs.Table.{both, every, at, both-left, both-right}
 
 abbrev B : ℕ
@@ -23,7 +23,7 @@ S = 2 ^ 63
 
 -- ---- the table: a test at each entry, which antt computes
 abbrev up-right : ℕ → ℕ → Bool
-up-right j x = leb (crown 22 (j * 2 ^ 59) B * S) ((x + 1) * bot 23 B)
+up-right j x = leb (doubled 22 (j * 2 ^ 59) B * S) ((x + 1) * bot 23 B)
 
 abbrev lo-right : ℕ → ℕ → Bool
 lo-right j x = leb (x * bot 22 B) (top 22 (j * 2 ^ 59) B * S)
@@ -32,15 +32,14 @@ abbrev right : ℕ → ℕ → Bool
 right j x = both (ltb x B) (both (up-right j x) (lo-right j x))
 
 tested : T (every right 0 expTable)
-unfolding crown top bot
+unfolding doubled top bot
 tested = tt
 
-entry : ℕ → ℕ
+abbrev entry : ℕ → ℕ
 entry j = getD expTable j 0
 
 module _ (j : ℕ) (h : j < 23) where
   passed : T (right j (entry j))
-  unfolding entry
   passed = at right expTable tested j h
 
   entry-lt : entry j < B
@@ -49,17 +48,19 @@ module _ (j : ℕ) (h : j < 23) where
   rest : T (both (up-right j (entry j)) (lo-right j (entry j)))
   rest = both-right (ltb (entry j) B) (both (up-right j (entry j)) (lo-right j (entry j))) passed
 
-  entry-lo : Lo (j * 2 ^ 59) B (entry j) S
-  entry-lo = record { terms = 22; bound = leb→le (entry j * bot 22 B) (top 22 (j * 2 ^ 59) B * S) (both-right (up-right j (entry j)) (lo-right j (entry j)) rest) }
+  pub entry-bound : entry j * bot 22 B ≤ top 22 (j * 2 ^ 59) B * S
+  entry-bound = leb→le (entry j * bot 22 B) (top 22 (j * 2 ^ 59) B * S) (both-right (up-right j (entry j)) (lo-right j (entry j)) rest)
 
-  entry-up : Up (j * 2 ^ 59) B (entry j + 1) S
-  entry-up = up-weaken (bot-pos 23 B (lit< tt)) (leb→le (crown 22 (j * 2 ^ 59) B * S) ((entry j + 1) * bot 23 B) (both-left (up-right j (entry j)) (lo-right j (entry j)) rest)) (up-crown 22 (j * 2 ^ 59) B (lit< tt) (few j h))
+  entry-lo : Lo (j * 2 ^ 59) B (entry j) S
+  entry-lo = record { terms = 22; bound = entry-bound }
+
+  pub entry-up : Up (j * 2 ^ 59) B (entry j + 1) S
+  entry-up = up-weaken (bot-pos 23 B (lit< tt)) (leb→le (doubled 22 (j * 2 ^ 59) B * S) ((entry j + 1) * bot 23 B) (both-left (up-right j (entry j)) (lo-right j (entry j)) rest)) (up-doubled 22 (j * 2 ^ 59) B (lit< tt) (few j h))
     where
       few : (j : ℕ) → j < 23 → 2 * (j * 2 ^ 59) ≤ 24 * 2 ^ 64
       few j h = omega arith
 
 pub table-lt : (j : ℕ) → j < 23 → getD expTable j 0 < 2 ^ 64
-unfolding entry
 table-lt j h = entry-lt j h
 
 -- ---- the product of the two
@@ -103,20 +104,20 @@ module _ (r : ℕ) (h : r < 23 * 2 ^ 59) where
   low = mod-lt r (pow-pos 59)
 
   pub mant-lo : Lo r B (mantOf r) (2 ^ 62)
-  unfolding mantOf entry
+  unfolding mantOf
   mant-lo =
       subst (λ (z : ℕ). Lo z B (mantOf r) (2 ^ 62)) (div-add-mod' r (2 ^ 59))
-      (lo-weaken (lit< tt) (scale-lo (made (entry (r / 2 ^ 59)) (horner (r % 2 ^ 59))) (entry (r / 2 ^ 59) * (S + horner (r % 2 ^ 59))) (made-lo (entry (r / 2 ^ 59)) (horner (r % 2 ^ 59))))
+      (lo-weaken (lit< tt) (scale-lo (made (entry (r / 2 ^ 59)) (minusOne (r % 2 ^ 59))) (entry (r / 2 ^ 59) * (S + minusOne (r % 2 ^ 59))) (made-lo (entry (r / 2 ^ 59)) (minusOne (r % 2 ^ 59))))
       (lo-add (lit< tt) (entry-lo (r / 2 ^ 59) place) (small-lo (r % 2 ^ 59))))
     where
       scale-lo : (m x : ℕ) → m * B ≤ x → m * (S * S) ≤ x * 2 ^ 62
       scale-lo m x g = le-trans (le-of-eq (sym (mul-assoc m B (2 ^ 62)))) (mul-le-mul-right (2 ^ 62) g)
 
   pub mant-up : Up r B (mantOf r + 512) (2 ^ 62)
-  unfolding mantOf entry
+  unfolding mantOf
   mant-up =
       subst (λ (z : ℕ). Up z B (mantOf r + 512) (2 ^ 62)) (div-add-mod' r (2 ^ 59))
-      (up-weaken (lit< tt) (scale-up (made (entry (r / 2 ^ 59)) (horner (r % 2 ^ 59)) + 512) ((entry (r / 2 ^ 59) + 1) * (S + horner (r % 2 ^ 59) + 420)) (made-up (entry (r / 2 ^ 59)) (horner (r % 2 ^ 59)) (entry-lt (r / 2 ^ 59) place) (le-trans (horner-le (r % 2 ^ 59) low) (le-of-lt low))))
+      (up-weaken (lit< tt) (scale-up (made (entry (r / 2 ^ 59)) (minusOne (r % 2 ^ 59)) + 512) ((entry (r / 2 ^ 59) + 1) * (S + minusOne (r % 2 ^ 59) + 420)) (made-up (entry (r / 2 ^ 59)) (minusOne (r % 2 ^ 59)) (entry-lt (r / 2 ^ 59) place) (le-trans (minusOne-le (r % 2 ^ 59) low) (le-of-lt low))))
       (up-add (lit< tt) (entry-up (r / 2 ^ 59) place) (small-up (r % 2 ^ 59) low)))
     where
       scale-up : (m x : ℕ) → x ≤ m * B → x * 2 ^ 62 ≤ m * (S * S)
@@ -131,10 +132,18 @@ large-tested = tt
 
 pub mant-ge : (r : ℕ) → r < 23 * 2 ^ 59 → 2 ^ 62 ≤ mantOf r
 unfolding mantOf
-mant-ge r h = le-trans (half (getD expTable (r / 2 ^ 59) 0) (leb→le (2 ^ 63) (getD expTable (r / 2 ^ 59) 0) (at large expTable large-tested (r / 2 ^ 59) (where-to r h)))) (le-add-right (getD expTable (r / 2 ^ 59) 0 / 2) (hi (getD expTable (r / 2 ^ 59) 0) (horner (r % 2 ^ 59))))
+mant-ge r h = le-trans (half (getD expTable (r / 2 ^ 59) 0) (leb→le (2 ^ 63) (getD expTable (r / 2 ^ 59) 0) (at large expTable large-tested (r / 2 ^ 59) (where-to r h)))) (le-add-right (getD expTable (r / 2 ^ 59) 0 / 2) (hi (getD expTable (r / 2 ^ 59) 0) (minusOne (r % 2 ^ 59))))
   where
     half : (b : ℕ) → 2 ^ 63 ≤ b → 2 ^ 62 ≤ b / 2
     half b h = omega arith
 
     where-to : (r : ℕ) → r < 23 * 2 ^ 59 → r / 2 ^ 59 < 23
     where-to r h = omega arith
+
+-- ---- and fits a word
+pub mant-lt : (r : ℕ) → r < 23 * 2 ^ 59 → mantOf r < 2 ^ 64
+unfolding mantOf
+mant-lt r h = halves-lt (getD expTable (r / 2 ^ 59) 0) (minusOne (r % 2 ^ 59)) (r % 2 ^ 59) (hi (getD expTable (r / 2 ^ 59) 0) (minusOne (r % 2 ^ 59))) (table-lt (r / 2 ^ 59) (place r h)) (minusOne-le (r % 2 ^ 59) (mod-lt r (pow-pos 59))) (mod-lt r (pow-pos 59)) refl
+  where
+    place : (r : ℕ) → r < 23 * 2 ^ 59 → r / 2 ^ 59 < 23
+    place r h = omega arith

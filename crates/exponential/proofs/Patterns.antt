@@ -1,12 +1,12 @@
 -- The value of a bit pattern below that of the infinity. Assumes nothing.
 use mathlib.Core.Path.{_≡_, refl, sym, ap, _∙_, subst}
-use mathlib.Core.Bool.{Bool, true, false, cond, not}
-use Prim.Native.Nat.{ℕ, zero, suc, _+_, _-_, _*_, _/_, _%_, _^_, _≤_, _<_}
+use mathlib.Core.Bool.{Bool, false, cond, not}
+use Prim.Native.Nat.{ℕ, suc, _+_, _-_, _*_, _/_, _%_, _^_, _≤_, _<_}
 use native.Mathlib.Nat.{lt-of-not-le, not-le-of-lt, add-comm, mod-eq-of-lt, mul-one}
 use native.Mathlib.Decide.{decLe}
 use native.Mathlib.Omega.{arith}
 use lib.Dec.{T, leb, ltb, eqb, leb→le, eqb→eq, not-T}
-use lib.Ieee.{Float, nan, inf, fin, binary64, odd, ofFields, ofBits, nanBits}
+use lib.Ieee.{Float, nan, inf, binary64, odd, ofFields, ofBits, nanBits}
 use lib.Ieee.Bits.{is-false, cond-no, nanBits-above}
 use lib.Ieee.Exact.{HasValue, odd-sign}
 use borrow.Author.Tests.{lt-ltb, le-ltb}

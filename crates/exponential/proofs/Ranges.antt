@@ -1,11 +1,11 @@
 -- What the tests of `exp` say of an argument. Assumes nothing.
-use mathlib.Core.Path.{_≡_, refl, sym, ap, _∙_, subst}
+use mathlib.Core.Path.{_≡_, sym, ap, _∙_, subst}
 use mathlib.Core.Bool.{Bool, true, false, cond, not}
-use Prim.Native.Nat.{ℕ, zero, suc, _+_, _*_, _^_, _≤_, _<_}
-use native.Mathlib.Nat.{zero-mul, zero-lt-suc, le-trans, le-of-eq, mul-one}
+use Prim.Native.Nat.{ℕ, zero, suc, _+_, _*_, _<_}
+use native.Mathlib.Nat.{zero-mul, zero-lt-suc}
 use native.Mathlib.Omega.{arith}
-use lib.Dec.{T, ltb, ltb→lt, nltb→le, lt→ltb}
-use lib.Ieee.{Float, nan, inf, fin, binary64, fits, lt, le, eq, neg, up, down, ofBits}
+use lib.Dec.{T, ltb→lt, nltb→le, lt→ltb}
+use lib.Ieee.{Float, nan, inf, fin, lt, le, neg, up, down, ofBits}
 use lib.Ieee.Positive.{positive, cross→le}
 use Rattle.exact.specs.Float64.{+0}
 use Rattle.exponential.specs.Exponential.{greatest}
@@ -51,10 +51,3 @@ below (fin true zero d) e f = absurd (none 0 (0 * up d * 1 + 0 * 1 * down d) (lt
 below (fin true (suc m) d) e f =
     let p = lt→ltb 0 (suc m) (zero-lt-suc m) in
     (p, cross→le (fin false (suc m) d) greatest p tt (nltb→le (700 * down d) (suc m * up d * 1) (is-not f)))
-
-pub neg-fits : (x : Float) → T (fits binary64 x) → T (fits binary64 (neg x))
-unfolding neg fits
-neg-fits nan t = t
-neg-fits (inf s) t = t
-neg-fits (fin s zero e) t = t
-neg-fits (fin s (suc m) e) t = t

@@ -1,22 +1,21 @@
 -- The mantissa at the next argument is hardly larger. Assumes nothing.
-use mathlib.Core.Path.{_≡_, refl, sym, ap, _∙_, subst}
 use Prim.Native.Nat.{ℕ, _+_, _*_, _^_, _≤_, _<_}
-use native.Mathlib.Nat.{le-refl, le-trans, le-of-eq, mul-assoc, mul-add, add-mul, add-le-add, mul-one, le-of-mul-le-mul-right}
+use native.Mathlib.Nat.{le-trans, le-of-eq, mul-assoc, le-of-mul-le-mul-right}
 use native.Mathlib.Omega.{arith}
 use lib.Dec.{T, leb, leb→le, lit≤, lit<}
 use Rattle.series.specs.Series.{top, bot}
 use Rattle.exponential.specs.Mantissa.{mantOf}
 use Rattle.series.proofs.Product.{bot-pos}
-use Rattle.series.proofs.Bounds.{Up, crown, up-crown, up-weaken, up-add}
+use Rattle.series.proofs.Bounds.{Up, doubled, up-doubled, up-weaken, up-add}
 use Rattle.series.proofs.Differences.{lo-le-up}
 use Rattle.exponential.proofs.Mantissa.{mant-lo, mant-up}
 
-tiny-test : T (leb (crown 1 1 (2 ^ 64) * 2 ^ 63) ((2 ^ 63 + 1) * bot 2 (2 ^ 64)))
-unfolding crown top bot
+tiny-test : T (leb (doubled 1 1 (2 ^ 64) * 2 ^ 63) ((2 ^ 63 + 1) * bot 2 (2 ^ 64)))
+unfolding doubled top bot
 tiny-test = tt
 
 tiny-up : Up 1 (2 ^ 64) (2 ^ 63 + 1) (2 ^ 63)
-tiny-up = up-weaken (bot-pos 2 (2 ^ 64) (lit< tt)) (leb→le (crown 1 1 (2 ^ 64) * 2 ^ 63) ((2 ^ 63 + 1) * bot 2 (2 ^ 64)) tiny-test) (up-crown 1 1 (2 ^ 64) (lit< tt) (lit≤ tt))
+tiny-up = up-weaken (bot-pos 2 (2 ^ 64) (lit< tt)) (leb→le (doubled 1 1 (2 ^ 64) * 2 ^ 63) ((2 ^ 63 + 1) * bot 2 (2 ^ 64)) tiny-test) (up-doubled 1 1 (2 ^ 64) (lit< tt) (lit≤ tt))
 
 -- the next value is hardly larger
 pub mant-next : (r : ℕ) → r + 1 < 23 * 2 ^ 59 → mantOf r < 2 ^ 64 → mantOf (r + 1) ≤ mantOf r + 1024
@@ -30,8 +29,11 @@ mant-next r h m =
     few : (y : ℕ) → y < 2 ^ 64 → y + 512 ≤ 4 * 2 ^ 63
     few y h = omega arith
 
-    more : (x y : ℕ) → x ≤ y + 512 + 4 → x ≤ y + 1024
-    more x y h = omega arith
-
     close : (x y : ℕ) → y < 2 ^ 64 → x * 2 ^ 63 ≤ (y + 512) * (2 ^ 63 + 1) → x ≤ y + 1024
-    close x y h k = more x y (le-of-mul-le-mul-right {k = 2 ^ 63} (le-trans k (le-trans (le-of-eq (mul-add (y + 512) (2 ^ 63) 1 ∙ ap (λ (z : ℕ). (y + 512) * 2 ^ 63 + z) (mul-one (y + 512)))) (le-trans (add-le-add (le-refl ((y + 512) * 2 ^ 63)) (few y h)) (le-of-eq (sym (add-mul (y + 512) 4 (2 ^ 63))))))) (lit< tt))
+    close x y h k = more (le-of-mul-le-mul-right {k = 2 ^ 63} (sums (2 ^ 63) x y (few y h) k) (lit< tt))
+      where
+        sums : (s x y : ℕ) → y + 512 ≤ 4 * s → x * s ≤ (y + 512) * (s + 1) → x * s ≤ (y + 516) * s
+        sums s x y h k = omega arith
+
+        more : x ≤ y + 516 → x ≤ y + 1024
+        more l = omega arith

@@ -1,10 +1,9 @@
 -- The exponential at X / 2^53 from its fixed-point parts: 2^k times the mantissa. Assumes nothing.
-use mathlib.Core.Path.{_≡_, refl, sym, ap, _∙_, subst}
+use mathlib.Core.Path.{_≡_, sym, ap, _∙_, subst}
 use Prim.Native.Nat.{ℕ, zero, suc, _+_, _-_, _*_, _/_, _%_, _^_, _≤_, _<_}
-use native.Mathlib.Nat.{le-refl, le-trans, le-of-eq, add-sub-of-le, mul-assoc, mul-comm, mul-left-comm, mul-le-mul-left, one-mul, mul-pos, div-add-mod', pow-zero, pow-succ'}
+use native.Mathlib.Nat.{le-trans, le-of-eq, add-sub-of-le, mul-le-mul-left, one-mul, mul-pos, div-add-mod', pow-zero, pow-succ'}
 use native.Mathlib.Omega.{arith}
-use lib.Dec.{T, leb, leb→le, lit≤, lit<}
-use Rattle.series.specs.Series.{top, bot}
+use lib.Dec.{lit≤, lit<}
 use Rattle.exponential.specs.Mantissa.{mantOf}
 use Rattle.exponential.specs.Exponential.{restOf, placeOf}
 use Rattle.series.proofs.Bounds.{Up, Lo, lo-weaken, up-add, lo-add, up-pow, lo-pow}
@@ -59,7 +58,7 @@ module _ (x : ℕ) (h : x ≤ 700 * 2 ^ 53) where
           (le-of-eq (resort (2 ^ k) M w (9223372036854775807 ^ k) (2 ^ 63) ∙ ap (λ (z : ℕ). z * M * (2 ^ 63 * w)) (sym (pow-product 2 9223372036854775807 k)))))
         where
           sort : (p M m q w : ℕ) → p * M * m * (q * w) ≡ p * M * w * (q * m)
-          sort p M m q w = simp (mul-assoc, mul-comm, mul-left-comm) refl
+          sort p M m q w = omega arith
 
           resort : (p M w q s : ℕ) → p * M * w * (q * s) ≡ p * q * M * (s * w)
-          resort p M w q s = simp (mul-assoc, mul-comm, mul-left-comm) refl
+          resort p M w q s = omega arith

@@ -1,24 +1,23 @@
 -- exp on f64, as the code computes it: in fixed point, one bit pattern for each argument.
 use Prim.Native.Nat.{ℕ, _+_, _*_, _/_, _%_, _^_}
-use mathlib.Core.Bool.{cond}
+use mathlib.Core.Bool.{false, cond}
 use lib.Dec.{ltb}
 use lib.Ieee.{Float, nan, inf, binary64, ofBits, toUnsigned, neg}
-use mathlib.Core.Bool.{false}
 use Rattle.exact.specs.Float64.{_⊗_, _⊘_, _<f_, _=f_, +0, +1}
 use Rattle.exponential.specs.Mantissa.{mantOf}
 
--- 700 and 2^53
+-- 700.0, and 9007199254740992.0 = 2^53
 abbrev pub greatest : Float
 greatest = ofBits binary64 0x4085_e000_0000_0000
 
 abbrev pub unit : Float
 unit = ofBits binary64 0x4340_0000_0000_0000
 
--- X / 2^53 = k ln 2 + r: the whole k, by 6243314768165360 = ln 2 * 2^53 rounded up,
+-- X / 2^53 is k ln 2 and a rest r. 6243314768165360 is ln 2 * 2^53 rounded up, so k is a whole quotient
 abbrev pub placeOf : ℕ → ℕ
 placeOf X = X / 6243314768165360
 
--- and r in units of 2^-64: 6243314768165360 * 2048 is 1621 above ln 2 * 2^64
+-- r in units of 2^-64, in which that divisor is 1621 above ln 2 rounded down
 unfoldable pub restOf : ℕ → ℕ
 restOf X = (X % 6243314768165360) * 2048 + X / 6243314768165360 * 1621
 
@@ -26,10 +25,19 @@ restOf X = (X % 6243314768165360) * 2048 + X / 6243314768165360 * 1621
 unfoldable pub patternOf : ℕ → ℕ → ℕ
 patternOf m k = cond (ltb m (2 ^ 63)) ((k + 1022) * 2 ^ 52 + m / 2 ^ 10) ((k + 1023) * 2 ^ 52 + m / 2 ^ 11)
 
--- e^x for 0 < x ≤ 700: with X the whole part of x * 2^53, e^(X / 2^53) = 2^k e^r
-unfoldable pub expAbove : Float → Float
+-- e^(X / 2^53) = 2^k e^r, for X up to 700 * 2^53
+unfoldable pub expFixed : ℕ → Float
 unfolding restOf patternOf mantOf
-expAbove x = let X = toUnsigned 64 (x ⊗ unit) in ofBits binary64 (patternOf (mantOf (restOf X)) (placeOf X))
+expFixed X = ofBits binary64 (patternOf (mantOf (restOf X)) (placeOf X))
+
+-- the whole part of x * 2^53
+abbrev pub fixedOf : Float → ℕ
+fixedOf x = toUnsigned 64 (x ⊗ unit)
+
+-- e^x for 0 < x ≤ 700
+unfoldable pub expAbove : Float → Float
+unfolding expFixed
+expAbove x = expFixed (fixedOf x)
 
 -- +infinity above 700, zero below -700, the reciprocal below zero, 1 at both zeros, NaN at NaN
 unfoldable pub expOf : Float → Float

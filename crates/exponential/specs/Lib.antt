@@ -1,2 +1,3 @@
 pub mod Mantissa
 pub mod Exponential
+pub mod Accuracy

@@ -35,13 +35,32 @@ expTable =
 abbrev pub hi : ℕ → ℕ → ℕ
 hi a b = a * b / 2 ^ 64
 
--- (e^(t / 2^64) - 1) in units of 2^-63, by Horner's rule with the coefficients 2^63 / i!, rounded down
-unfoldable pub horner : ℕ → ℕ
-horner t =
-    hi t (0x8000000000000000 + hi t (0x4000000000000000 + hi t (0x1555555555555555 + hi t (0x555555555555555 + hi t (0x111111111111111 + hi t (0x2d82d82d82d82d + hi t 0x6806806806806))))))
+-- c + x (d + x (..)) at x = t / 2^64, by Horner's rule, each product cut to a whole number
+unfoldable pub horner : ℕ → List ℕ → ℕ
+horner t [] = 0
+horner t (c ∷ []) = c
+horner t (c ∷ d ∷ ds) = c + hi t (horner t (d ∷ ds))
 
-unfoldable pub mantOf : ℕ → ℕ
+-- 2^63 / i! for i from 1 to 7, rounded down
+abbrev pub coefficients : List ℕ
+coefficients =
+    0x8000000000000000 ∷
+    0x4000000000000000 ∷
+    0x1555555555555555 ∷
+    0x555555555555555 ∷
+    0x111111111111111 ∷
+    0x2d82d82d82d82d ∷
+    0x6806806806806 ∷
+    []
+
+-- e^(t / 2^64) - 1 in units of 2^-63, for t up to 1/32
+unfoldable pub minusOne : ℕ → ℕ
 unfolding horner
+minusOne t = hi t (horner t coefficients)
+
+-- e^(r / 2^64) in units of 2^-62: e^(j / 32) by the table, times e^(t / 2^64)
+unfoldable pub mantOf : ℕ → ℕ
+unfolding minusOne
 mantOf r =
     let b = getD expTable (r / 2 ^ 59) 0 in
-    b / 2 + hi b (horner (r % 2 ^ 59))
+    b / 2 + hi b (minusOne (r % 2 ^ 59))

@@ -3,11 +3,10 @@ ghost use mathlib.Core.Path.{_≡_};
 ghost use Prim.Native.Nat.{_+_, _*_, _/_, _%_, _^_, _≤_, _<_};
 ghost use lib.ListN.{getD};
 ghost use lib.Dec.{T};
-ghost use lib.Ieee.{binary64, ofBits, toUnsigned, le};
+ghost use lib.Ieee.{binary64, ofBits, le};
 ghost use lib.Ieee.Positive.{positive};
-ghost use Rattle.exact.specs.Float64.{_⊗_};
 ghost use Rattle.exponential.specs.Mantissa.{expTable, mantOf};
-ghost use Rattle.exponential.specs.Exponential.{placeOf, restOf, patternOf, expAbove, expOf, greatest, unit};
+ghost use Rattle.exponential.specs.Exponential.{patternOf, expFixed, fixedOf, expAbove, expOf, greatest};
 use wide::mulhi;
 
 // e^(j / 32) in units of 2^-63, rounded down. A match, which LLVM makes a table of: a constant array is stored anew at each call.
@@ -42,43 +41,35 @@ fn exp_tab(j: u64) -> u64
     }
 }
 
+// c + t q / 2^64, cut to a whole number: a step of Horner's rule.
+fn step(t: u64, c: u64, q: u64) -> u64
+    requires { ⌜ (t < 2 ^ 59) × (c ≤ 2 ^ 63) ⌝ }
+    ensures { λ r. ⌜ r ≡ c + t * q / 2 ^ 64 ⌝ }
+{
+    c + mulhi(t, q)
+}
+
 // e^(r / 2^64) in units of 2^-62.
 pub fn mant(r: u64) -> u64
     requires { ⌜ r < 23 * 2 ^ 59 ⌝ }
     ensures { λ m. ⌜ m ≡ mantOf r ⌝ }
 {
     let t = r & 0x7ff_ffff_ffff_ffff;
-    let q6 = 0x002d82d82d82d82d + mulhi(t, 0x0006806806806806);
-    let q5 = 0x0111111111111111 + mulhi(t, q6);
-    let q4 = 0x0555555555555555 + mulhi(t, q5);
-    let q3 = 0x1555555555555555 + mulhi(t, q4);
-    let q2 = 0x4000000000000000 + mulhi(t, q3);
-    let q1 = 0x8000000000000000 + mulhi(t, q2);
+    let q6 = step(t, 0x2d82d82d82d82d, 0x6806806806806);
+    let q5 = step(t, 0x111111111111111, q6);
+    let q4 = step(t, 0x555555555555555, q5);
+    let q3 = step(t, 0x1555555555555555, q4);
+    let q2 = step(t, 0x4000000000000000, q3);
+    let q1 = step(t, 0x8000000000000000, q2);
     let p = mulhi(t, q1);
     let b = exp_tab(r >> 59);
     (b >> 1) + mulhi(b, p)
 }
 
-pub struct Power {
-    pub m: u64,
-    pub k: u64,
-}
-
-// e^(x / 2^53) is about m * 2^(k - 62).
-pub fn scaled(x: u64) -> Power
-    requires { ⌜ x ≤ 700 * 2 ^ 53 ⌝ }
-    ensures { λ s. ⌜ (s .m ≡ mantOf (restOf x)) × (s .k ≡ placeOf x) ⌝ }
-{
-    let k = x / 6243314768165360;
-    let r = (x - k * 6243314768165360) * 2048 + k * 1621;
-    let m = mant(r);
-    Power { m: m, k: k }
-}
-
 // The whole part of x * 2^53.
 fn fixed(x: f64) -> u64
     requires { ⌜ T (positive x) × T (le x greatest) ⌝ }
-    ensures { λ r. ⌜ r ≡ toUnsigned 64 (x ⊗ unit) ⌝ }
+    ensures { λ r. ⌜ r ≡ fixedOf x ⌝ }
 {
     std::num::truncating_f64_to_u64(x * 9007199254740992.0)
 }
@@ -95,13 +86,22 @@ fn assembled(m: u64, k: u64) -> f64
     }
 }
 
+// e^(x / 2^53) = 2^k e^r, with r in units of 2^-64.
+pub fn exp_fixed(x: u64) -> f64
+    requires { ⌜ x ≤ 700 * 2 ^ 53 ⌝ }
+    ensures { λ r. ⌜ r ≡ expFixed x ⌝ }
+{
+    let k = x / 6243314768165360;
+    let r = (x - k * 6243314768165360) * 2048 + k * 1621;
+    assembled(mant(r), k)
+}
+
 // e^x, for x above 0 and up to 700.
 fn exp_above(x: f64) -> f64
     requires { ⌜ T (positive x) × T (le x greatest) ⌝ }
     ensures { λ r. ⌜ r ≡ expAbove x ⌝ }
 {
-    let s = scaled(fixed(x));
-    assembled(s.m, s.k)
+    exp_fixed(fixed(x))
 }
 
 // e^x: +infinity above 700, 0 below -700, 1 at both zeros, NaN at NaN.

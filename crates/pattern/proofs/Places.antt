@@ -1,6 +1,6 @@
 -- Laws of the search: rising columns are ordered by their places, and the first place of a column is the only one.
 use mathlib.Core.Path.{_≡_, refl, sym, ap, _∙_, subst}
-use mathlib.Core.Bool.{Bool, true, false, _&&_}
+use mathlib.Core.Bool.{Bool, true, false, cond, _&&_}
 use mathlib.Core.Logic.{_⊎_, inl, inr, ⊎-elim}
 use mathlib.Core.List.{List, [], _∷_}
 use Prim.Native.Nat.{ℕ, zero, suc, _+_, _-_, _≤_, _<_, zero-le, suc-le-suc}
@@ -10,9 +10,10 @@ use lib.ListN.{length, getD, take, drop, List·getD-eq-default}
 use lib.Seq.{slice, length-slice, getD-drop, getD-take}
 use lib.Dec.{T, ltb, eqb}
 use borrow.Author.Tests.{ltb-true, ltb-false, eq-eqb, ne-eqb}
-use Rattle.pattern.specs.Pattern.{risingAfter, rising, placeIn, cellOf}
+use Rattle.pattern.specs.Pattern.{risingAfter, rising, placeIn, cellOf, wellFormed}
+use Rattle.pattern.specs.declared.Found.{Found}
 use Rattle.pattern.specs.declared.Found.the-variants.{At, Absent}
-use Rattle.pattern.proofs.Rows.{and-left, and-right}
+use Rattle.pattern.proofs.Rows.{and-left, and-right, Row, row-at, pairs-of, same-count}
 
 lt-or-le : (m n : ℕ) → (m < n) ⊎ (n ≤ m)
 lt-or-le m n = go (ltb m n) refl
@@ -142,3 +143,33 @@ module _ (columns : List ℕ) (f t column lo hi : ℕ) (inside : t ≤ length co
 pub cell-outside : (columns os ns : List ℕ) (row column : ℕ) → length os ≤ row → length ns ≤ row → cellOf columns os ns row column ≡ Absent
 unfolding cellOf placeIn
 cell-outside columns os ns row column h k = simp (List·getD-eq-default os 0 h, List·getD-eq-default ns 0 k)
+
+-- a place that is found lies within the columns
+pick-within : (b : Bool) (at p n : ℕ) (rest : Found) → cond b (At at) rest ≡ At p → at < n → (rest ≡ At p → p < n) → p < n
+pick-within true at p n rest e h k = let q : at ≡ p = cc in omega arith
+pick-within false at p n rest e h k = k e
+
+place-within : (at : ℕ) (xs : List ℕ) (column p : ℕ) → placeIn at xs column ≡ At p → p < at + length xs
+unfolding placeIn
+place-within at [] column p e = let z : _≡_ {A = ℕ} 0 1 = cc in omega arith
+place-within at (x ∷ xs) column p e =
+    pick-within (eqb x column) at p (at + suc (length xs)) (placeIn (suc at) xs column) e (omega arith)
+    (λ q. omega (arith, place-within (suc at) xs column p q))
+
+cell-inside : (columns os ns : List ℕ) (row column p : ℕ) → Row columns os ns row → cellOf columns os ns row column ≡ At p → p < length columns
+unfolding cellOf
+cell-inside columns os ns row column p r e =
+    omega
+    (arith, place-within (getD os row 0) _ column p e, length-slice (getD os row 0) (getD os row 0 + getD ns row 0) columns (r .within), r .within)
+
+pub cell-within : (columns os ns : List ℕ) (values : ℕ) → wellFormed columns os ns values ≡ true → (row column p : ℕ)
+    → cellOf columns os ns row column ≡ At p → p < length columns
+cell-within columns os ns values well row column p e =
+    let fit = pairs-of columns os ns values well in
+    ⊎-elim
+    (λ (h : row < length os). cell-inside columns os ns row column p (row-at columns 0 os ns fit row h) e)
+    (λ (h : length os ≤ row).
+    let q = sym (cell-outside columns os ns row column h (omega (arith, same-count columns 0 os ns fit))) ∙ e in
+    let z : _≡_ {A = ℕ} 0 1 = cc in
+    omega arith)
+    (lt-or-le row (length os))

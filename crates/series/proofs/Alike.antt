@@ -2,7 +2,7 @@
 use mathlib.Core.List.{[], _∷_}
 use Rattle.exact.specs.Fraction.{ℚ, nat, _*q_, _≤q_, _≈q_}
 use Rattle.exact.proofs.FractionLaws.{≈-refl, ≈-sym, *-comm, *-cong, ≤-of-≈, ≤-trans, *-mono}
-use Rattle.exact.proofs.FractionProver.{qv, ##, _⊠_, req}
+use Rattle.exact.proofs.FractionProver.{qv, _⊠_, req}
 
 pub record Alike (s u v : ℚ) : Type 0 where
   pub le : u ≤q v *q s

@@ -1,19 +1,18 @@
 -- E at a / b and at -a / b, by the sums over whole numbers. Assumes nothing.
 use mathlib.Core.Path.{_≡_, refl, sym, ap, _∙_, subst}
 use mathlib.Core.Bool.{Bool, true, false, cond}
-use Prim.Native.Nat.{ℕ, zero, suc, _+_, _-_, _*_, _^_, _≤_, _<_, max}
-use native.Mathlib.Nat.{mul-pos, mul-comm, mul-assoc, mul-left-comm, mul-one, le-of-eq, lt-of-lt-of-le, zero-lt-suc, pow-zero, pow-succ', eq-of-mul-eq-mul-right, lt-of-not-le, not-le-of-lt, le-of-mul-le-mul-right, mul-le-mul-right, zero-mul}
-use native.Mathlib.Decide.{decLe}
+use Prim.Native.Nat.{ℕ, zero, suc, _+_, _*_, _^_, _≤_, _<_, max}
+use native.Mathlib.Nat.{mul-pos, mul-comm, mul-assoc, mul-left-comm, mul-one, lt-of-lt-of-le, zero-lt-suc, pow-zero, pow-succ', eq-of-mul-eq-mul-right, not-le-of-lt, le-of-mul-le-mul-right, mul-le-mul-right, zero-mul}
 use native.Mathlib.Omega.{arith}
-use lib.Dec.{T, leb}
+use lib.Dec.{leb}
 use borrow.Author.Tests.{leb-true, leb-false}
-use Rattle.exact.specs.Fraction.{ℚ, _//_, nat, _+q_, negq, _*q_, _/q_, _≤q_, _≈q_}
-use Rattle.exact.proofs.FractionLaws.{≈-refl, ≈-sym, ≈-trans, *-cong, +-cong, neg-cong}
+use Rattle.exact.specs.Fraction.{ℚ, _//_, nat, negq, _/q_, _≈q_}
+use Rattle.exact.proofs.FractionLaws.{≈-refl, ≈-sym, *-cong, +-cong, neg-cong}
 use Rattle.series.specs.Series.{term, partialSum, E, top, bot}
 use Rattle.series.proofs.Product.{bot-pos}
 use Rattle.series.proofs.Tail.{one-le}
 use Rattle.series.proofs.Bounds.{top-zero}
-use Rattle.series.proofs.Quotients.{_⟫_, frac-≈, frac-≡, frac-*, frac-+, frac-nat, frac-one, one-over, above-cross, below-cross}
+use Rattle.series.proofs.Quotients.{_⟫_, frac-≈, frac-≡, frac-*, frac-+, frac-nat, one-over, above-cross, below-cross}
 
 pub top-pos : (N a b : ℕ) → 0 < b → 0 < top N a b
 top-pos N a b h = lt-of-lt-of-le (bot-pos N b h) (one-le N a b)

@@ -1,9 +1,8 @@
 -- Bounds on the exponential series' partial sums at a fraction a / b: `Up a b u v`, every partial sum is at most u / v; `Lo a b u v`, some partial sum is at least u / v.
 -- Both multiply as the arguments add. Assumes nothing.
 use mathlib.Core.Path.{_≡_, refl, sym, ap, _∙_, subst}
-use mathlib.Core.Logic.{_⊎_, inl, inr}
-use Prim.Native.Nat.{ℕ, zero, suc, _+_, _-_, _*_, _^_, _≤_, _<_, suc-le-suc, zero-le}
-use native.Mathlib.Nat.{le-refl, le-trans, le-of-eq, le-of-lt, lt-of-lt-of-le, lt-of-le-of-lt, lt-of-not-le, zero-lt-suc, eq-or-lt-of-le, le-of-suc-le-suc, le-dest, add-assoc, add-comm, add-left-comm, mul-assoc, mul-comm, mul-left-comm, mul-mul-mul-comm, mul-add, add-mul, add-le-add, mul-le-mul, mul-le-mul-left, mul-le-mul-right, le-add-right, le-add-left, add-suc, suc-add, zero-mul, mul-zero, suc-mul, add-zero, zero-add, one-mul, mul-one, mul-pos, pow-zero, pow-succ', pow-suc, pow-le-pow-left, eq-of-mul-eq-mul-left, le-of-mul-le-mul-left, le-of-mul-le-mul-right}
+use Prim.Native.Nat.{ℕ, zero, suc, _+_, _*_, _^_, _≤_, _<_, suc-le-suc}
+use native.Mathlib.Nat.{le-refl, le-trans, le-of-eq, lt-of-not-le, le-dest, add-assoc, add-comm, mul-assoc, mul-left-comm, mul-add, add-le-add, mul-le-mul, mul-le-mul-left, mul-le-mul-right, le-add-right, le-add-left, add-suc, suc-add, zero-mul, suc-mul, add-zero, zero-add, one-mul, mul-one, mul-pos, pow-zero, pow-succ', pow-le-pow-left, le-of-mul-le-mul-right}
 use native.Mathlib.Decide.{decLe}
 use native.Mathlib.Omega.{arith}
 use Rattle.series.specs.Series.{top, bot}
@@ -16,20 +15,9 @@ pub record Lo (a b u v : ℕ) : Type 0 where
   pub terms : ℕ
   pub bound : u * bot terms b ≤ top terms a b * v
 
-four : (x y z w : ℕ) → x * y * (z * w) ≡ x * z * (y * w)
-four x y z w = mul-mul-mul-comm x y z w
-
 -- e^(x + y) ≤ e^x * e^y
 pub up-add : {a c b u v u' v' : ℕ} → 0 < b → Up a b u v → Up c b u' v' → Up (a + c) b (u * u') (v * v')
-up-add {a} {c} {b} {u} {v} {u'} {v'} h p q = record {
-  bound = λ N.
-      le-of-mul-le-mul-right {k = bot N b}
-      (le-trans (le-of-eq (simp (mul-assoc, mul-comm, mul-left-comm) refl))
-      (le-trans (mul-le-mul-right (v * v') (sum-le-product a c b N h))
-      (le-trans (le-of-eq (four (top N a b) (top N c b) v v'))
-      (le-trans (mul-le-mul (p .bound N) (q .bound N)) (le-of-eq (four u (bot N b) u' (bot N b) ∙ sym (mul-assoc (u * u') (bot N b) (bot N b))))))))
-      (bot-pos N b h);
-}
+up-add {a} {c} {b} {u} {v} {u'} {v'} h p q = record { bound = λ N. le-of-mul-le-mul-right {k = bot N b} (omega (arith, mul-le-mul-right (v * v') (sum-le-product a c b N h), mul-le-mul (p .bound N) (q .bound N))) (bot-pos N b h) }
 
 -- e^x * e^y ≤ e^(x + y)
 pub lo-add : {a c b u v u' v' : ℕ} → 0 < b → Lo a b u v → Lo c b u' v' → Lo (a + c) b (u * u') (v * v')
@@ -40,38 +28,20 @@ lo-add {a} {c} {b} {u} {v} {u'} {v'} h p q =
       terms = n + m;
       bound =
           le-of-mul-le-mul-right {k = bot n b * bot m b}
-          (le-trans (le-of-eq (simp (mul-assoc, mul-comm, mul-left-comm) refl))
-          (le-trans (mul-le-mul-right (bot (n + m) b) (mul-le-mul (p .bound) (q .bound)))
-          (le-trans (le-of-eq (simp (mul-assoc, mul-comm, mul-left-comm) refl))
-          (le-trans (mul-le-mul-right (v * v') (product-le-sum a c b n m h)) (le-of-eq (simp (mul-assoc, mul-comm, mul-left-comm) refl))))))
+          (omega (arith, mul-le-mul-right (bot (n + m) b) (mul-le-mul (p .bound) (q .bound)), mul-le-mul-right (v * v') (product-le-sum a c b n m h)))
           (mul-pos (bot-pos n b h) (bot-pos m b h));
     }
 
+-- x / p ≤ y / q ≤ z / r
+pub chain : (x y z p q r : ℕ) → 0 < q → x * q ≤ y * p → y * r ≤ z * q → x * r ≤ z * p
+chain x y z p q r h f g = le-of-mul-le-mul-right {k = q} (omega (arith, mul-le-mul-right r f, mul-le-mul-right p g)) h
+
 -- a bound may be loosened
 pub up-weaken : {a b u v u' v' : ℕ} → 0 < v → u * v' ≤ u' * v → Up a b u v → Up a b u' v'
-up-weaken {a} {b} {u} {v} {u'} {v'} h w p = record {
-  bound = λ N.
-      le-of-mul-le-mul-right {k = v}
-      (le-trans (le-of-eq (simp (mul-assoc, mul-comm, mul-left-comm) refl))
-      (le-trans (mul-le-mul-right v' (p .bound N))
-      (le-trans (le-of-eq (simp (mul-assoc, mul-comm, mul-left-comm) refl))
-      (le-trans (mul-le-mul-right (bot N b) w) (le-of-eq (simp (mul-assoc, mul-comm, mul-left-comm) refl))))))
-      h;
-}
+up-weaken {a} {b} {u} {v} {u'} {v'} h w p = record { bound = λ N. chain (top N a b) u u' (bot N b) v v' h (p .bound N) w }
 
 pub lo-weaken : {a b u v u' v' : ℕ} → 0 < v → u' * v ≤ u * v' → Lo a b u v → Lo a b u' v'
-lo-weaken {a} {b} {u} {v} {u'} {v'} h w p =
-    let n = p .terms in
-    record {
-      terms = n;
-      bound =
-          le-of-mul-le-mul-right {k = v}
-          (le-trans (le-of-eq (simp (mul-assoc, mul-comm, mul-left-comm) refl))
-          (le-trans (mul-le-mul-right (bot n b) w)
-          (le-trans (le-of-eq (simp (mul-assoc, mul-comm, mul-left-comm) refl))
-          (le-trans (mul-le-mul-right v' (p .bound)) (le-of-eq (simp (mul-assoc, mul-comm, mul-left-comm) refl))))))
-          h;
-    }
+lo-weaken {a} {b} {u} {v} {u'} {v'} h w p = record { terms = p .terms; bound = chain u' u (top (p .terms) a b) v' v (bot (p .terms) b) h w (p .bound) }
 
 -- a larger argument
 pub top-mono : (N a c b : ℕ) → a ≤ c → top N a b ≤ top N c b
@@ -109,29 +79,29 @@ pub lo-pow : {a b u v : ℕ} → 0 < b → Lo a b u v → (k : ℕ) → Lo (k * 
 lo-pow {a} {b} {u} {v} h p zero = subst (λ (z : ℕ × ℕ × ℕ). Lo (z .0) b (z .1) (z .2)) (λ i. (sym (zero-mul a) i, sym (pow-zero u) i, sym (pow-zero v) i)) (lo-zero b)
 lo-pow {a} {b} {u} {v} h p (suc k) = subst (λ (z : ℕ × ℕ × ℕ). Lo (z .0) b (z .1) (z .2)) (λ i. (sym (suc-mul' k a) i, sym (pow-succ' u k) i, sym (pow-succ' v k) i)) (lo-add h p (lo-pow h p k))
 
--- ---- a bound on every partial sum from one of them: the term after it, once more, is more than all the later ones
-unfoldable pub crown : ℕ → ℕ → ℕ → ℕ
+-- ---- a bound on every partial sum from one of them: with its last term doubled, where each later term is at most half the one before
+unfoldable pub doubled : ℕ → ℕ → ℕ → ℕ
 unfolding top
-crown N a b = top (suc N) a b + a ^ suc N
+doubled N a b = top (suc N) a b + a ^ suc N
 
-crown-step : (N a b : ℕ) → 2 * a ≤ suc (suc N) * b → crown (suc N) a b ≤ suc (suc N) * b * crown N a b
-unfolding crown top
-crown-step N a b h =
+doubled-step : (N a b : ℕ) → 2 * a ≤ suc (suc N) * b → doubled (suc N) a b ≤ suc (suc N) * b * doubled N a b
+unfolding doubled top
+doubled-step N a b h =
     le-trans (le-of-eq (add-assoc (suc (suc N) * b * top (suc N) a b) (a ^ suc (suc N)) (a ^ suc (suc N)) ∙ ap (λ (x : ℕ). suc (suc N) * b * top (suc N) a b + x) (twice (a ^ suc (suc N)) ∙ ap (λ (x : ℕ). 2 * x) (pow-succ' a (suc N)) ∙ sym (mul-assoc 2 a (a ^ suc N)))))
     (le-trans (add-le-add (le-refl (suc (suc N) * b * top (suc N) a b)) (mul-le-mul-right (a ^ suc N) h)) (le-of-eq (sym (mul-add (suc (suc N) * b) (top (suc N) a b) (a ^ suc N)))))
   where
     twice : (x : ℕ) → x + x ≡ 2 * x
     twice x = omega arith
 
--- crown (n + d) over its denominator is at most crown n over its
-crown-later : (n d a b : ℕ) → 2 * a ≤ suc (suc n) * b → crown (d + n) a b * bot (suc n) b ≤ crown n a b * bot (suc (d + n)) b
+-- doubled (n + d) over its denominator is at most doubled n over its
+doubled-later : (n d a b : ℕ) → 2 * a ≤ suc (suc n) * b → doubled (d + n) a b * bot (suc n) b ≤ doubled n a b * bot (suc (d + n)) b
 unfolding bot
-crown-later n zero a b h = subst (λ (k : ℕ). crown k a b * bot (suc n) b ≤ crown n a b * bot (suc k) b) (sym (zero-add n)) (le-refl (crown n a b * bot (suc n) b))
-crown-later n (suc d) a b h =
-    subst (λ (k : ℕ). crown k a b * bot (suc n) b ≤ crown n a b * bot (suc k) b) (sym (suc-add d n))
-    (le-trans (mul-le-mul-right (bot (suc n) b) (crown-step (d + n) a b (le-trans h (mul-le-mul-right b (suc-le-suc (suc-le-suc (le-add-left n d)))))))
-    (le-trans (le-of-eq (mul-assoc (suc (suc (d + n)) * b) (crown (d + n) a b) (bot (suc n) b)))
-    (le-trans (mul-le-mul-left (suc (suc (d + n)) * b) (crown-later n d a b h)) (le-of-eq (mul-left-comm (suc (suc (d + n)) * b) (crown n a b) (bot (suc (d + n)) b))))))
+doubled-later n zero a b h = subst (λ (k : ℕ). doubled k a b * bot (suc n) b ≤ doubled n a b * bot (suc k) b) (sym (zero-add n)) (le-refl (doubled n a b * bot (suc n) b))
+doubled-later n (suc d) a b h =
+    subst (λ (k : ℕ). doubled k a b * bot (suc n) b ≤ doubled n a b * bot (suc k) b) (sym (suc-add d n))
+    (le-trans (mul-le-mul-right (bot (suc n) b) (doubled-step (d + n) a b (le-trans h (mul-le-mul-right b (suc-le-suc (suc-le-suc (le-add-left n d)))))))
+    (le-trans (le-of-eq (mul-assoc (suc (suc (d + n)) * b) (doubled (d + n) a b) (bot (suc n) b)))
+    (le-trans (mul-le-mul-left (suc (suc (d + n)) * b) (doubled-later n d a b h)) (le-of-eq (mul-left-comm (suc (suc (d + n)) * b) (doubled n a b) (bot (suc (d + n)) b))))))
 
 -- more terms
 pub top-later : (n d a b : ℕ) → top n a b * bot (d + n) b ≤ top (d + n) a b * bot n b
@@ -143,32 +113,23 @@ top-later n (suc d) a b =
     (le-trans (mul-le-mul-left (suc (d + n) * b) (top-later n d a b))
     (le-trans (le-of-eq (sym (mul-assoc (suc (d + n) * b) (top (d + n) a b) (bot n b)))) (mul-le-mul-right (bot n b) (le-add-right (suc (d + n) * b * top (d + n) a b) (a ^ suc (d + n)))))))
 
-top-le-crown : (n a b : ℕ) → top (suc n) a b ≤ crown n a b
-unfolding crown
-top-le-crown n a b = le-add-right (top (suc n) a b) (a ^ suc n)
+top-le-doubled : (n a b : ℕ) → top (suc n) a b ≤ doubled n a b
+unfolding doubled
+top-le-doubled n a b = le-add-right (top (suc n) a b) (a ^ suc n)
 
-pub chain : (x y z p q r : ℕ) → 0 < q → x * q ≤ y * p → y * r ≤ z * q → x * r ≤ z * p
-chain x y z p q r h f g =
-    le-of-mul-le-mul-right {k = q}
-    (le-trans (le-of-eq (simp (mul-assoc, mul-comm, mul-left-comm) refl))
-    (le-trans (mul-le-mul-right r f)
-    (le-trans (le-of-eq (simp (mul-assoc, mul-comm, mul-left-comm) refl))
-    (le-trans (mul-le-mul-right p g) (le-of-eq (simp (mul-assoc, mul-comm, mul-left-comm) refl))))))
-    h
-
-pub up-crown : (n a b : ℕ) → 0 < b → 2 * a ≤ suc (suc n) * b → Up a b (crown n a b) (bot (suc n) b)
-up-crown n a b h w = record { bound = λ N. either N (decLe N (suc n)) }
+pub up-doubled : (n a b : ℕ) → 0 < b → 2 * a ≤ suc (suc n) * b → Up a b (doubled n a b) (bot (suc n) b)
+up-doubled n a b h w = record { bound = λ N. either N (decLe N (suc n)) }
   where
-    either : (N : ℕ) → Dec (N ≤ suc n) → top N a b * bot (suc n) b ≤ crown n a b * bot N b
+    either : (N : ℕ) → Dec (N ≤ suc n) → top N a b * bot (suc n) b ≤ doubled n a b * bot N b
     either N (yes l) =
         let d = le-dest l in
         let e : d .0 + N ≡ suc n = add-comm (d .0) N ∙ d .1 in
-        le-trans (subst (λ (k : ℕ). top N a b * bot k b ≤ top k a b * bot N b) e (top-later N (d .0) a b)) (mul-le-mul-right (bot N b) (top-le-crown n a b))
+        le-trans (subst (λ (k : ℕ). top N a b * bot k b ≤ top k a b * bot N b) e (top-later N (d .0) a b)) (mul-le-mul-right (bot N b) (top-le-doubled n a b))
     either N (no f) =
         let d = le-dest (lt-of-not-le f) in
         let e : suc (d .0 + suc n) ≡ N = sym (add-suc (d .0) (suc n)) ∙ add-comm (d .0) (suc (suc n)) ∙ d .1 in
         let m = d .0 + suc n in
-        subst (λ (k : ℕ). top k a b * bot (suc n) b ≤ crown n a b * bot k b) e
-        (chain (top (suc m) a b) (crown m a b) (crown n a b) (bot (suc m) b) (bot (suc m) b) (bot (suc n) b) (bot-pos (suc m) b h)
-        (mul-le-mul-right (bot (suc m) b) (top-le-crown m a b))
-        (subst (λ (k : ℕ). crown k a b * bot (suc n) b ≤ crown n a b * bot (suc k) b) (suc-add (d .0) n ∙ sym (add-suc (d .0) n)) (crown-later n (suc (d .0)) a b w)))
+        subst (λ (k : ℕ). top k a b * bot (suc n) b ≤ doubled n a b * bot k b) e
+        (chain (top (suc m) a b) (doubled m a b) (doubled n a b) (bot (suc m) b) (bot (suc m) b) (bot (suc n) b) (bot-pos (suc m) b h)
+        (mul-le-mul-right (bot (suc m) b) (top-le-doubled m a b))
+        (subst (λ (k : ℕ). doubled k a b * bot (suc n) b ≤ doubled n a b * bot (suc k) b) (suc-add (d .0) n ∙ sym (add-suc (d .0) n)) (doubled-later n (suc (d .0)) a b w)))

@@ -13,3 +13,4 @@ pub mod ProductLaws
 pub mod SmallArguments
 pub mod Shifts
 pub mod Sizes
+pub mod Enclosures

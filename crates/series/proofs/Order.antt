@@ -1,11 +1,12 @@
 -- E grows with its argument; with more terms it grows at arguments above zero and shrinks below. It is positive, 1 at 0, and E(x) E(-x) = 1. Assumes nothing.
-use mathlib.Core.Path.{_≡_, refl, sym, ap, _∙_, subst}
-use Prim.Native.Nat.{ℕ, zero, suc, _+_, _*_, _^_, _≤_, _<_, max}
-use native.Mathlib.Nat.{mul-pos, mul-comm, mul-assoc, mul-left-comm, le-trans, le-of-eq, zero-lt-suc, mul-le-mul, mul-le-mul-left, mul-le-mul-right, le-of-mul-le-mul-right, le-dest, add-comm}
+use mathlib.Core.Path.{_≡_, refl, ap, _∙_, subst}
+use Prim.Native.Nat.{ℕ, _+_, _*_, _≤_, _<_, max}
+use native.Mathlib.Nat.{mul-pos, mul-comm, le-trans, le-of-eq, zero-lt-suc, mul-le-mul, mul-le-mul-left, mul-le-mul-right, le-of-mul-le-mul-right, le-dest, add-comm}
 use native.Mathlib.Omega.{arith}
-use Rattle.exact.specs.Fraction.{ℚ, _//_, nat, negq, _*q_, _≤q_, _≈q_}
+use Rattle.exact.specs.Fraction.{ℚ, _//_, nat, negq, _*q_, _≤q_, _<q_, _≈q_}
 use Rattle.exact.proofs.FractionLaws.{≈-refl, ≈-sym, *-cong, zero-*, neg-cong, neg-mono, ≤-of-≈, ≤-trans, ≤-antisym}
 use Rattle.exact.proofs.Rounding.{frac-nonneg}
+use Rattle.exact.proofs.StrictOrder.{<-of-≤-not-≈}
 use Rattle.series.specs.Series.{E, top, bot}
 use Rattle.series.proofs.Product.{bot-pos}
 use Rattle.series.proofs.Tail.{one-le}
@@ -131,3 +132,6 @@ E-nonneg N x = go (sign-of x 1 (zero-lt-suc 0))
 pub E-not-zero : (N : ℕ) (x : ℚ) → ¬ (E N x ≈q nat 0)
 unfolding nat
 E-not-zero N x z = let h = (≈-sym (E-reciprocal N x) ⟫ *-cong z (≈-refl (E N (negq x))) ⟫ zero-* (E N (negq x))) .eq in omega arith
+
+pub E-pos : (N : ℕ) (x : ℚ) → nat 0 <q E N x
+E-pos N x = <-of-≤-not-≈ (E-nonneg N x) (λ (z : nat 0 ≈q E N x). E-not-zero N x (≈-sym z))

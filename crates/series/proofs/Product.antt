@@ -1,12 +1,11 @@
 -- The exponential series' partial sums and products: with e N a for the sum to the term N at a / b,  e N (a + c) ≤ e N a * e N c, and e N a * e M c ≤ e (N + M) (a + c). Assumes nothing.
 use mathlib.Core.Path.{_≡_, refl, sym, ap, _∙_, subst}
 use mathlib.Core.Logic.{_⊎_, inl, inr}
-use mathlib.Core.Bool.{Bool, true, false, cond, not}
-use Prim.Native.Nat.{ℕ, zero, suc, _+_, _*_, _^_, _≤_, _<_, suc-le-suc, zero-le}
-use native.Mathlib.Nat.{le-refl, le-trans, le-of-eq, le-of-lt, lt-of-lt-of-le, lt-of-le-of-lt, lt-irrefl, zero-lt-suc, eq-or-lt-of-le, le-of-suc-le-suc, add-assoc, add-comm, add-left-comm, mul-assoc, mul-comm, mul-left-comm, mul-add, add-mul, add-le-add, mul-le-mul, mul-le-mul-left, mul-le-mul-right, le-add-right, le-add-left, add-suc, suc-add, zero-mul, mul-zero, add-zero, zero-add, one-mul, mul-one, mul-pos, pow-zero, pow-succ', pow-suc, eq-of-mul-eq-mul-left, le-of-mul-le-mul-left, le-of-mul-le-mul-right}
+use Prim.Native.Nat.{ℕ, zero, suc, _+_, _*_, _^_, _≤_, _<_, suc-le-suc}
+use native.Mathlib.Nat.{le-refl, le-trans, le-of-eq, le-of-lt, lt-of-le-of-lt, lt-irrefl, zero-lt-suc, eq-or-lt-of-le, le-of-suc-le-suc, add-comm, mul-assoc, mul-comm, mul-left-comm, mul-add, add-mul, mul-le-mul-right, le-add-left, suc-add, zero-mul, mul-zero, add-zero, zero-add, mul-pos, pow-zero, pow-succ', eq-of-mul-eq-mul-left, le-of-mul-le-mul-right}
 use native.Mathlib.Omega.{arith}
 use Rattle.series.specs.Series.{top, bot}
-use Rattle.series.proofs.Sums.{Seq, shift, sum, conv, conv-back, conv-left, conv-right, conv-scale-left, conv-scale-right, weigh, tri, tri-le-square, rectangle-le-tri}
+use Rattle.series.proofs.Sums.{Seq, sum, conv, conv-back, conv-left, conv-right, conv-scale-left, conv-scale-right, weigh, tri, tri-le-square, rectangle-le-tri}
 
 -- the term i of the series, over the common denominator K! * b^K: K!/i! * a^i * b^(K-i). `last K i x` is x where i is K, and 0 elsewhere.
 unfoldable pub last : ℕ → ℕ → ℕ → ℕ
@@ -64,7 +63,7 @@ term-last a b (suc K) =
     ∙ ap (λ (x : ℕ). x + last (suc K) (suc K) (a ^ suc K)) (mul-zero (suc K * b)) ∙ zero-add (last (suc K) (suc K) (a ^ suc K)) ∙ last-self (suc K) (a ^ suc K)
 
 swap : (x y z w : ℕ) → x * y * (z * w) ≡ z * (x * y * w)
-swap x y z w = simp (mul-assoc, mul-comm, mul-left-comm) refl
+swap x y z w = omega arith
 
 -- each term but the last, from the one before it
 term-step : (a b K i : ℕ) → i < K → suc i * b * term a b K (suc i) ≡ a * term a b K i
@@ -106,7 +105,7 @@ module _ (a c b K : ℕ) where
       ∙ ap (λ (x : ℕ). conv u (λ j. suc j * v (suc j)) n + x) (mul-zero (u (suc n))) ∙ add-zero (conv u (λ j. suc j * v (suc j)) n)
 
   turn : (x y z : ℕ) → y * (x * z) ≡ x * y * z
-  turn x y z = simp (mul-assoc, mul-comm, mul-left-comm) refl
+  turn x y z = omega arith
 
   left : (n : ℕ) → n < K → b * conv (λ i. i * Z i) W (suc n) ≡ a * conv Z W n
   left n h =
@@ -189,10 +188,7 @@ sum-le-product a c b N h =
     (le-trans (tri-le-square (term a b N) (term c b N) N) (le-of-eq (λ i. sum-top a b N i * sum-top c b N i)))
 
 four : (x y z w : ℕ) → x * y * (z * w) ≡ x * z * (y * w)
-four x y z w = simp (mul-assoc, mul-comm, mul-left-comm) refl
-
-five : (x y z w : ℕ) → x * y * (z * w) ≡ x * (y * (z * w))
-five x y z w = mul-assoc x y (z * w)
+four x y z w = omega arith
 
 -- e^x * e^y ≤ e^(x + y), of sums to the terms N, M and N + M
 pub product-le-sum : (a c b N M : ℕ) → 0 < b → top N a b * top M c b * bot (N + M) b ≤ top (N + M) (a + c) b * (bot N b * bot M b)
@@ -206,5 +202,5 @@ product-le-sum a c b N M h =
     le-of-mul-le-mul-right {k = B}
     (le-trans (le-of-eq (mul-assoc (top N a b * top M c b) B B ∙ four (top N a b) (top M c b) B B ∙ (λ i. sym eu i * sym ev i) ∙ four u (bot N b) v (bot M b)))
     (le-trans (mul-le-mul-right (bot N b * bot M b) (le-trans (rectangle-le-tri (term a b K) (term c b K) N M) (le-of-eq (tri-is a c b K h))))
-    (le-of-eq (simp (mul-assoc, mul-comm, mul-left-comm) refl))))
+    (le-of-eq (omega arith))))
     (bot-pos K b h)

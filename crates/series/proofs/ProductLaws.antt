@@ -1,19 +1,21 @@
 -- E(x) E(y) against E(x + y): for arguments above zero each way with no error, and for any signs but for a few parts in 2^1000. Assumes nothing.
-use mathlib.Core.Path.{_≡_, refl, sym, ap, _∙_, subst}
+use mathlib.Core.Path.{refl, sym}
 use mathlib.Core.List.{[], _∷_}
-use mathlib.Core.Logic.{_⊎_, inl, inr}
-use Prim.Native.Nat.{ℕ, zero, suc, _+_, _*_, _^_, _≤_, _<_}
-use native.Mathlib.Nat.{mul-pos, mul-comm, mul-assoc, mul-left-comm, le-trans, le-of-eq, mul-le-mul-right, zero-lt-suc}
+use mathlib.Core.Logic.{inl, inr}
+use Prim.Native.Nat.{ℕ, _+_, _*_, _^_, _<_}
+use native.Mathlib.Nat.{mul-pos, mul-comm, mul-assoc, le-trans, le-of-eq, mul-le-mul-right}
 use native.Mathlib.Omega.{arith}
-use Rattle.exact.specs.Fraction.{ℚ, _//_, nat, _+q_, _-q_, negq, _*q_, absq, _≤q_, _≈q_, leqb}
-use Rattle.exact.proofs.FractionLaws.{≈-refl, ≈-sym, *-comm, *-assoc, *-cong, one-*, +-cong, +-comm, ≤-of-≈, ≤-refl, ≤-trans, *-mono, neg-mono, lit-≤}
-use Rattle.exact.proofs.FractionProver.{qv, ##, _÷_, _⊞_, _⊟_, _⊠_, ⊝, leq, req, linq, _⊑_by_}
+use Rattle.exact.specs.Fraction.{ℚ, _//_, nat, _+q_, negq, _*q_, _≤q_, _≈q_, leqb}
+use Rattle.exact.proofs.FractionLaws.{≈-refl, ≈-sym, *-comm, *-assoc, *-cong, one-*, +-cong, +-comm, ≤-of-≈, ≤-trans, *-mono, lit-≤}
+use Rattle.exact.proofs.FractionProver.{qv, ##, _⊞_, _⊠_, ⊝, leq, req, linq, _⊑_by_}
 use Rattle.exact.proofs.Rounding.{abs-neg, abs-mono-≈}
+pub use Rattle.exact.proofs.StrictOrder.{*-nonneg as product-nonneg}
+use Rattle.exact.proofs.StrictOrder.{≤-or-≤, *-nonneg}
 use Rattle.series.specs.Series.{E, Enough, top, bot}
 use Rattle.series.proofs.Product.{bot-pos, sum-le-product, product-le-sum}
-use Rattle.series.proofs.Quotients.{_⟫_, frac-≤, frac-≡, frac-*, frac-+, ≤-or, above-of}
+use Rattle.series.proofs.Quotients.{_⟫_, frac-≤, frac-≡, frac-*, frac-+, above-of}
 use Rattle.series.proofs.AtFractions.{E-above}
-use Rattle.series.proofs.Order.{sandwich, neg-neg, E-cong, E-reciprocal, E-nonneg}
+use Rattle.series.proofs.Order.{sandwich, E-cong, E-reciprocal, E-nonneg}
 use Rattle.series.proofs.Alike.{Alike, alike-sym, alike-≈, alike-scale, alike-trans, alike-mono}
 use Rattle.series.proofs.TailLaws.{Moderate, tail, E-tail}
 
@@ -63,15 +65,12 @@ s-one = lit-≤ tt
 widen : (x : ℚ) → nat 0 ≤q x → x ≤q x *q s
 widen x X = ≤-trans (leq (x ∷ []) (qv 0) (qv 0 ⊠ ## 1) tt) (*-mono X s-one)
 
-pub product-nonneg : {x y : ℚ} → nat 0 ≤q x → nat 0 ≤q y → nat 0 ≤q x *q y
-product-nonneg {x} {y} X Y = ≤-trans (leq (x ∷ []) (## 0) (qv 0 ⊠ ## 0) tt) (*-mono X Y)
-
 more : (N M : ℕ) → Enough N → Enough (N + M)
 more N M n = omega arith
 
 base : {N : ℕ} {x y : ℚ} → Enough N → Moderate (x +q y) → nat 0 ≤q x → nat 0 ≤q y → Alike s (E N (x +q y)) (E N x *q E N y)
 base {N} {x} {y} n m X Y = record {
-  le = ≤-trans (E-sum-≤ X Y N) (widen (E N x *q E N y) (product-nonneg (E-nonneg N x) (E-nonneg N y)));
+  le = ≤-trans (E-sum-≤ X Y N) (widen (E N x *q E N y) (*-nonneg (E-nonneg N x) (E-nonneg N y)));
   ge = ≤-trans (E-product-≤ X Y N N) (E-tail n (more N N n) m .le);
 }
 
@@ -102,7 +101,7 @@ module _ {N : ℕ} {x y : ℚ} (n : Enough N) (mx : Moderate x) (my : Moderate y
       (*-cong (*-cong (E-cong N (≈-sym e)) (≈-refl p) ⟫ back (x +q y)) (≈-refl q) ⟫ one-* q)
       (req (E N (negq x) ∷ E N (negq y) ∷ p ∷ E N x ∷ E N y ∷ []) (qv 0 ⊠ qv 1 ⊠ qv 2 ⊠ (qv 3 ⊠ qv 4)) (qv 2 ⊠ (qv 0 ⊠ qv 3) ⊠ (qv 1 ⊠ qv 4)) tt tt
       ⟫ *-cong (*-cong (≈-refl p) (back x)) (back y) ⟫ req (p ∷ []) (qv 0 ⊠ ## 1 ⊠ ## 1) (qv 0) tt tt)
-      (alike-scale q (product-nonneg (E-nonneg N x) (E-nonneg N y)) (alike-scale p (E-nonneg N (x +q y)) r)))
+      (alike-scale q (*-nonneg (E-nonneg N x) (E-nonneg N y)) (alike-scale p (E-nonneg N (x +q y)) r)))
 
   -- x = (x + y) + (-y)
   down-above : nat 0 ≤q x +q y → y ≤q nat 0 → Alike s (E N (x +q y)) (E N x *q E N y)
@@ -123,12 +122,12 @@ module _ {N : ℕ} {x y : ℚ} (n : Enough N) (mx : Moderate x) (my : Moderate y
       (alike-scale (E N y) (E-nonneg N y) (alike-scale p (E-nonneg N (x +q y)) r))
 
   above-below : nat 0 ≤q x → y ≤q nat 0 → Alike s (E N (x +q y)) (E N x *q E N y)
-  above-below X Y = elim (≤-or (nat 0) (x +q y)) [ inl Z ↦ down-above Z Y | inr Z ↦ down-below X Z ]
+  above-below X Y = elim (≤-or-≤ (nat 0) (x +q y)) [ inl Z ↦ down-above Z Y | inr Z ↦ down-below X Z ]
 
 same-terms : {N : ℕ} {x y : ℚ} → Enough N → Moderate x → Moderate y → Moderate (x +q y) → Alike s (E N (x +q y)) (E N x *q E N y)
-same-terms {N} {x} {y} n mx my mz = elim (≤-or (nat 0) x) [
-  | inl X ↦ elim (≤-or (nat 0) y) [ inl Y ↦ base n mz X Y | inr Y ↦ above-below n mx my mz X Y ]
-  | inr X ↦ elim (≤-or (nat 0) y) [
+same-terms {N} {x} {y} n mx my mz = elim (≤-or-≤ (nat 0) x) [
+  | inl X ↦ elim (≤-or-≤ (nat 0) y) [ inl Y ↦ base n mz X Y | inr Y ↦ above-below n mx my mz X Y ]
+  | inr X ↦ elim (≤-or-≤ (nat 0) y) [
     | inl Y ↦ alike-≈ (E-cong N (+-comm y x)) (*-comm (E N y) (E N x)) (above-below n my mx (moderate-≈ (+-comm x y) mz) Y X)
     | inr Y ↦ both-below n mx my mz X Y
   ]
@@ -144,7 +143,7 @@ three = lit-≤ tt
 
 pub E-+ : {K N M : ℕ} {x y : ℚ} → Enough K → Enough N → Enough M → Moderate x → Moderate y → Moderate (x +q y) → Alike (nat 1 +q tails) (E K (x +q y)) (E N x *q E M y)
 E-+ {K} {N} {M} {x} {y} k n m mx my mz =
-    alike-mono (E-nonneg K (x +q y)) (product-nonneg (E-nonneg N x) (E-nonneg M y)) three
-    (alike-trans s-pos (product-nonneg s-pos s-pos) (same-terms k mx my mz)
+    alike-mono (E-nonneg K (x +q y)) (*-nonneg (E-nonneg N x) (E-nonneg M y)) three
+    (alike-trans s-pos (*-nonneg s-pos s-pos) (same-terms k mx my mz)
     (alike-trans s-pos s-pos (alike-scale (E K y) (E-nonneg K y) (E-tail n k mx))
     (alike-≈ (*-comm (E K y) (E N x)) (*-comm (E M y) (E N x)) (alike-scale (E N x) (E-nonneg N x) (E-tail m k my)))))

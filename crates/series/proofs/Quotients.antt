@@ -1,12 +1,13 @@
 -- The fractions a // b of natural numbers: when two are one number, their order, sums, products and reciprocals. Assumes nothing.
-use mathlib.Core.Path.{_≡_, refl, sym, ap, _∙_, subst, subst₂}
-use Prim.Native.Nat.{ℕ, suc, _+_, _-_, _*_, _≤_, _<_, max}
-use native.Mathlib.Nat.{mul-pos, mul-comm, mul-assoc, mul-left-comm, le-of-eq, le-of-lt, lt-of-not-le, sub-add-cancel}
-use native.Mathlib.Decide.{decLe}
-use mathlib.Core.Logic.{_⊎_, inl, inr}
+use mathlib.Core.Path.{_≡_, refl, sym, ap, subst, subst₂}
+use Prim.Native.Nat.{ℕ, _+_, _-_, _*_, _≤_, _<_, max}
+use native.Mathlib.Nat.{mul-pos, mul-comm, sub-add-cancel}
+use mathlib.Core.Logic.{inl, inr}
 use native.Mathlib.Omega.{arith}
 use Rattle.exact.specs.Fraction.{ℚ, _//_, nat, _+q_, negq, _*q_, _/q_, _≤q_, _≈q_}
 use Rattle.exact.proofs.FractionLaws.{≈-refl, ≈-sym, ≈-trans, *-comm, *-assoc, *-cong, one-*}
+use Rattle.exact.proofs.StrictOrder.{≤-or-≤}
+pub use Rattle.exact.proofs.StrictOrder.{≤-or-≤ as ≤-or}
 use Rattle.exact.proofs.FractionDivision.{div-*}
 
 infixr 30 _⟫_
@@ -100,20 +101,12 @@ module _ (x : ℚ) (m : ℕ) (M : 0 < m) where
       down : (p q d m n : ℕ) → n + p ≡ q → p * (d * m) + n * m * d ≡ 0 * d + q * (d * m)
       down p q d m n e = omega (arith, ap (λ (t : ℕ). t * (d * m)) e)
 
--- one way round or the other
-pub ≤-or : (x y : ℚ) → (x ≤q y) ⊎ (y ≤q x)
-≤-or x y = either (decLe (x .p * y .d + y .q * x .d) (y .p * x .d + x .q * y .d))
-  where
-    either : Dec (x .p * y .d + y .q * x .d ≤ y .p * x .d + x .q * y .d) → (x ≤q y) ⊎ (y ≤q x)
-    either (yes l) = inl (record { le = l })
-    either (no f) = inr (record { le = let k = lt-of-not-le f in omega arith })
-
 pub data Sign (x : ℚ) (b : ℕ) : Type 0 where
   above : (a : ℕ) → x ≈q a // b → Sign x b
   below : (a : ℕ) → x ≈q negq (a // b) → Sign x b
 
 pub sign-of : (x : ℚ) (m : ℕ) → 0 < m → Sign x (x .d * m)
-sign-of x m M = elim (≤-or (nat 0) x) [
+sign-of x m M = elim (≤-or-≤ (nat 0) x) [
   | inl h ↦ let r = above-of x m M h in above (r .0) (r .1)
   | inr h ↦ let r = below-of x m M h in below (r .0) (r .1)
 ]

@@ -1,6 +1,7 @@
 -- The same fraction in larger numbers: bounds on the sums at a / b are bounds at any fraction that is not above, or not below, a / b. Assumes nothing.
-use mathlib.Core.Path.{_≡_, refl, sym, ap, _∙_, subst}
-use Prim.Native.Nat.{ℕ, zero, suc, _+_, _-_, _*_, _^_, _≤_, _<_}
+use mathlib.Core.Path.{_≡_, sym, ap, _∙_, subst}
+use Prim.Native.Nat.{ℕ, zero, suc, _+_, _*_, _^_, _≤_, _<_}
+use native.Mathlib.Omega.{arith}
 use native.Mathlib.Nat.{le-trans, le-of-eq, mul-assoc, mul-comm, mul-left-comm, mul-add, mul-le-mul-left, mul-pos, pow-zero, pow-succ', le-of-mul-le-mul-left}
 use Rattle.series.specs.Series.{top, bot}
 use Rattle.series.proofs.Bounds.{Up, Lo, up-mono, lo-mono}
@@ -16,7 +17,7 @@ top-scale (suc N) a b s =
     ∙ sym (mul-add (s ^ suc N) (suc N * b * top N a b) (a ^ suc N))
   where
     regroup : (n b s p t : ℕ) → n * (b * s) * (p * t) ≡ s * p * (n * b * t)
-    regroup n b s p t = simp (mul-assoc, mul-comm, mul-left-comm) refl
+    regroup n b s p t = omega arith
 
 pub bot-scale : (N b s : ℕ) → bot N (b * s) ≡ s ^ N * bot N b
 unfolding bot
@@ -26,7 +27,7 @@ bot-scale (suc N) b s =
     ∙ ap (λ (z : ℕ). z * (suc N * b * bot N b)) (sym (pow-succ' s N))
   where
     regroup : (n b s p t : ℕ) → n * (b * s) * (p * t) ≡ s * p * (n * b * t)
-    regroup n b s p t = simp (mul-assoc, mul-comm, mul-left-comm) refl
+    regroup n b s p t = omega arith
 
 pub power-pos : (s N : ℕ) → 0 < s → 0 < s ^ N
 power-pos s zero h = le-of-eq (sym (pow-zero s))

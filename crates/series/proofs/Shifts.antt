@@ -1,8 +1,7 @@
 -- A small change of the argument is a relative change of E about as large; and E tells arguments apart. Assumes nothing.
-use mathlib.Core.Path.{_≡_, refl}
 use mathlib.Core.List.{[], _∷_}
-use mathlib.Core.Logic.{_⊎_, inl, inr}
-use Prim.Native.Nat.{ℕ, zero, suc, _+_, _*_, _^_, _≤_, _<_, zero-le}
+use mathlib.Core.Logic.{inl, inr}
+use Prim.Native.Nat.{ℕ, _^_, _≤_, zero-le}
 use native.Mathlib.Nat.{zero-lt-suc, mul-pos}
 use lib.Pow.{pow-pos}
 use native.Mathlib.Omega.{arith}
@@ -10,12 +9,13 @@ use Rattle.exact.specs.Fraction.{ℚ, _//_, nat, _+q_, _-q_, negq, _*q_, absq, 
 use Rattle.exact.proofs.FractionLaws.{≈-refl, ≈-sym, *-comm, *-cong, ≤-of-≈, ≤-refl, ≤-trans, ≤-antisym, *-mono, lit-≤}
 use Rattle.exact.proofs.Closeness.{le-abs, neg-le-abs, abs-nonneg, abs-*-le}
 use Rattle.exact.proofs.FractionProver.{qv, ##, _÷_, _⊞_, _⊟_, _⊠_, ⊝, leq, req, linq, _⊑_by_, nat-≤}
+use Rattle.exact.proofs.StrictOrder.{≤-or-≤, *-nonneg}
 use Rattle.series.specs.Series.{E, Enough}
-use Rattle.series.proofs.Quotients.{_⟫_, ≤-or, frac-nat, frac-*, frac-≈}
+use Rattle.series.proofs.Quotients.{_⟫_, frac-nat, frac-*, frac-≈}
 use Rattle.series.proofs.Order.{E-mono, E-nonneg, E-not-zero}
 use Rattle.series.proofs.Alike.{Alike}
 use Rattle.series.proofs.TailLaws.{Moderate}
-use Rattle.series.proofs.ProductLaws.{tails, E-+, product-nonneg}
+use Rattle.series.proofs.ProductLaws.{tails, E-+}
 use Rattle.series.proofs.SmallArguments.{E-one-plus, E-quadratic}
 
 tails-nonneg : nat 0 ≤q tails
@@ -34,7 +34,7 @@ some {N} n = omega arith
 
 module _ {K N : ℕ} {x : ℚ} (d : ℚ) (k : Enough K) (n : Enough N) (mx : Moderate x) (mz : Moderate (x +q d)) (D : absq d ≤q nat 1) where
   together : Alike (nat 1 +q tails) (E K (x +q d)) (E N x *q E N d)
-  together = E-+ k n n mx (record { size = ≤-trans D (leq [] (## 1) (## 720) tt) }) mz
+  together = E-+ k n n mx (record { size = ≤-trans D (leq [] (## 1) (## 1000) tt) }) mz
 
   -- E(x) (1 + d) ≤ E(x + d), but for the tails
   pub E-shift-≥ : E N x *q (nat 1 +q d) ≤q E K (x +q d) *q (nat 1 +q tails)
@@ -53,8 +53,8 @@ E-shift {K} {N} {x} d k n mx mz D =
     let w = e *q (nat 1 +q d +q d *q d) in
     let D₁ : g ≤q nat 1 = ≤-trans D (leq [] (1 ÷ 4) (## 1) tt) in
     let e₀ = E-nonneg N x in
-    let eg₀ = product-nonneg e₀ (abs-nonneg d) in
-    let et₀ = product-nonneg e₀ tails-nonneg in
+    let eg₀ = *-nonneg e₀ (abs-nonneg d) in
+    let et₀ = *-nonneg e₀ tails-nonneg in
     let ed : e *q d ≤q e *q g = *-mono e₀ (le-abs d) in
     let en : e *q negq d ≤q e *q g = *-mono e₀ (neg-le-abs d) in
     let dd : d *q d ≤q g *q (1 // 4) = ≤-trans (le-abs (d *q d)) (abs-*-le d d (≤-refl g) D) in
@@ -91,7 +91,7 @@ unit-factor e P h l =
     (≤-trans (*-mono (nat-≤ {a = 0} zero-le) l) (leq (nat P ∷ []) (qv 0 ⊠ ## 0) (## 0) tt))
 
 pub E-reflects : {K N : ℕ} {u v : ℚ} → Enough K → Enough N → Moderate v → Moderate (v +q nat 2 *q tails) → E K u ≤q E N v → u ≤q v +q nat 2 *q tails
-E-reflects {K} {N} {u} {v} k n mv mw h = elim (≤-or u (v +q nat 2 *q tails)) [
+E-reflects {K} {N} {u} {v} k n mv mw h = elim (≤-or-≤ u (v +q nat 2 *q tails)) [
   | inl l ↦ l
   | inr l ↦
       let e = E N v in let d = nat 2 *q tails in

@@ -1,21 +1,21 @@
 -- Near 0: 1 + x ≤ E(x), and E(x) ≤ 1 + x + x^2 for x up to 3/2. Assumes nothing.
-use mathlib.Core.Path.{_≡_, refl, sym, ap, _∙_, subst}
+use mathlib.Core.Path.{_≡_, ap, _∙_}
 use mathlib.Core.List.{[], _∷_}
-use mathlib.Core.Logic.{_⊎_, inl, inr}
-use Prim.Native.Nat.{ℕ, zero, suc, _+_, _*_, _^_, _≤_, _<_}
-use native.Mathlib.Nat.{mul-pos, mul-comm, mul-assoc, mul-left-comm, mul-one, one-mul, le-trans, le-of-eq, zero-lt-suc, pow-zero, pow-succ'}
+use mathlib.Core.Logic.{inl, inr}
+use Prim.Native.Nat.{ℕ, _+_, _*_, _^_, _≤_, _<_}
+use native.Mathlib.Nat.{mul-pos, mul-one, zero-lt-suc, pow-zero, pow-succ'}
 use native.Mathlib.Omega.{arith}
 use Rattle.exact.specs.Fraction.{ℚ, _//_, nat, _+q_, _-q_, negq, _*q_, _≤q_, _≈q_}
-use Rattle.exact.proofs.FractionLaws.{≈-refl, ≈-sym, *-comm, *-cong, +-cong, ≤-of-≈, ≤-refl, ≤-trans, *-mono}
+use Rattle.exact.proofs.FractionLaws.{≈-refl, ≈-sym, *-cong, +-cong, ≤-of-≈, ≤-trans, *-mono}
 use Rattle.exact.proofs.FractionProver.{qv, ##, _÷_, _⊞_, _⊟_, _⊠_, ⊝, leq, req, linq, _⊑_by_}
+use Rattle.exact.proofs.StrictOrder.{≤-or-≤, *-nonneg}
 use Rattle.series.specs.Series.{E, top, bot}
 use Rattle.series.proofs.Product.{bot-pos}
-use Rattle.series.proofs.Bounds.{crown, up-crown}
+use Rattle.series.proofs.Bounds.{doubled, up-doubled}
 use Rattle.series.proofs.Differences.{one-two}
-use Rattle.series.proofs.Quotients.{_⟫_, frac-≈, frac-≤, frac-≡, frac-*, frac-+, frac-one, cross-≤, ≤-or, above-of}
+use Rattle.series.proofs.Quotients.{_⟫_, frac-≈, frac-≤, frac-*, frac-+, frac-one, cross-≤, above-of}
 use Rattle.series.proofs.AtFractions.{E-above}
-use Rattle.series.proofs.Order.{sandwich, neg-neg, E-cong, E-reciprocal, E-nonneg, E-terms-above}
-use Rattle.series.proofs.ProductLaws.{product-nonneg}
+use Rattle.series.proofs.Order.{sandwich, E-reciprocal, E-nonneg, E-terms-above}
 
 -- ---- x above 0
 module _ {x : ℚ} (X : nat 0 ≤q x) where
@@ -44,9 +44,9 @@ module _ {x : ℚ} (X : nat 0 ≤q x) where
       sort : (n b : ℕ) → n * (b * b) ≡ b * n * b
       sort n b = omega arith
 
-  crown-is : (a b : ℕ) → crown 1 a b * (b * b) ≡ (b * (b + a) + a * a) * bot 2 b
-  unfolding crown top bot
-  crown-is a b = rw (one a) (rw (two a) (expand a b))
+  doubled-is : (a b : ℕ) → doubled 1 a b * (b * b) ≡ (b * (b + a) + a * a) * bot 2 b
+  unfolding doubled top bot
+  doubled-is a b = rw (one a) (rw (two a) (expand a b))
     where
       one : (a : ℕ) → a ^ 1 ≡ a
       one a = pow-succ' a 0 ∙ ap (λ (z : ℕ). a * z) (pow-zero a) ∙ mul-one a
@@ -59,8 +59,8 @@ module _ {x : ℚ} (X : nat 0 ≤q x) where
 
   quadratic-above : (N : ℕ) → x ≤q 3 // 2 → E N x ≤q nat 1 +q x +q x *q x
   quadratic-above N h =
-      sandwich (E-above N (of-x .0) b B (of-x .1)) (square-is ⟫ ≈-sym (frac-≈ _ _ (bot-pos 2 b B) (mul-pos B B) (crown-is (of-x .0) b)))
-      (frac-≤ _ _ (bot-pos N b B) (bot-pos 2 b B) (up-crown 1 (of-x .0) b B small .bound N))
+      sandwich (E-above N (of-x .0) b B (of-x .1)) (square-is ⟫ ≈-sym (frac-≈ _ _ (bot-pos 2 b B) (mul-pos B B) (doubled-is (of-x .0) b)))
+      (frac-≤ _ _ (bot-pos N b B) (bot-pos 2 b B) (up-doubled 1 (of-x .0) b B small .bound N))
     where
       small : 2 * of-x .0 ≤ 3 * b
       small = let k = cross-≤ (of-x .0) 3 B (zero-lt-suc 1) (≤-trans (≤-of-≈ (≈-sym (of-x .1))) h) in omega arith
@@ -88,12 +88,12 @@ module _ {N : ℕ} {x : ℚ} (n : 1 ≤ N) (X : x ≤q nat 0) where
       let q : y ≤q nat 1 +q u +q u *q u = quadratic-above U N (≤-trans h (leq [] (## 1) (3 ÷ 2) tt)) in
       let w : nat 0 ≤q nat 1 -q u = linq (u ∷ []) ((qv 0 ⊑ ## 1 by 1) ∷ []) 0 (## 0) (## 1 ⊟ qv 0) tt h in
       let p : (nat 1 -q u) *q y ≤q nat 1 =
-      linq (u ∷ y ∷ []) (((## 1 ⊟ qv 0) ⊠ qv 1 ⊑ (## 1 ⊟ qv 0) ⊠ (## 1 ⊞ qv 0 ⊞ qv 0 ⊠ qv 0) by 1) ∷ (## 0 ⊑ qv 0 ⊠ (qv 0 ⊠ qv 0) by 1) ∷ []) 0 ((## 1 ⊟ qv 0) ⊠ qv 1) (## 1) tt (*-mono w q) (product-nonneg U (product-nonneg U U)) in
+      linq (u ∷ y ∷ []) (((## 1 ⊟ qv 0) ⊠ qv 1 ⊑ (## 1 ⊟ qv 0) ⊠ (## 1 ⊞ qv 0 ⊞ qv 0 ⊠ qv 0) by 1) ∷ (## 0 ⊑ qv 0 ⊠ (qv 0 ⊠ qv 0) by 1) ∷ []) 0 ((## 1 ⊟ qv 0) ⊠ qv 1) (## 1) tt (*-mono w q) (*-nonneg U (*-nonneg U U)) in
       ≤-trans (≤-of-≈ (req (u ∷ []) (## 1 ⊟ qv 0) (## 1 ⊠ (## 1 ⊟ qv 0)) tt tt ⟫ *-cong (≈-sym inverse) (≈-refl (nat 1 -q u)) ⟫ req (e ∷ y ∷ u ∷ []) (qv 0 ⊠ qv 1 ⊠ (## 1 ⊟ qv 2)) (qv 0 ⊠ ((## 1 ⊟ qv 2) ⊠ qv 1)) tt tt))
       (≤-trans (*-mono (E-nonneg N x) p) (leq (e ∷ []) (qv 0 ⊠ ## 1) (qv 0) tt))
 
   minus-below : nat 1 -q u ≤q E N x
-  minus-below = elim (≤-or u (nat 1)) [
+  minus-below = elim (≤-or-≤ u (nat 1)) [
     | inl h ↦ small-below h
     | inr h ↦ ≤-trans (linq (u ∷ []) ((## 1 ⊑ qv 0 by 1) ∷ []) 0 (## 1 ⊟ qv 0) (## 0) tt h) (E-nonneg N x)
   ]
@@ -112,7 +112,7 @@ module _ {N : ℕ} {x : ℚ} (n : 1 ≤ N) (X : x ≤q nat 0) where
 
 -- ---- both signs
 pub E-one-plus : {N : ℕ} (x : ℚ) → 1 ≤ N → nat 1 +q x ≤q E N x
-E-one-plus x n = elim (≤-or (nat 0) x) [ inl X ↦ one-plus-above X n | inr X ↦ one-plus-below n X ]
+E-one-plus x n = elim (≤-or-≤ (nat 0) x) [ inl X ↦ one-plus-above X n | inr X ↦ one-plus-below n X ]
 
 pub E-quadratic : {N : ℕ} {x : ℚ} → 1 ≤ N → x ≤q 3 // 2 → E N x ≤q nat 1 +q x +q x *q x
-E-quadratic {N} {x} n h = elim (≤-or (nat 0) x) [ inl X ↦ quadratic-above X N h | inr X ↦ quadratic-below n X ]
+E-quadratic {N} {x} n h = elim (≤-or-≤ (nat 0) x) [ inl X ↦ quadratic-above X N h | inr X ↦ quadratic-below n X ]

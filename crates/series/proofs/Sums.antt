@@ -1,7 +1,7 @@
 -- Finite sums and convolutions of sequences of natural numbers. Assumes nothing.
 use mathlib.Core.Path.{_≡_, refl, sym, ap, _∙_, subst}
-use Prim.Native.Nat.{ℕ, zero, suc, _+_, _*_, _^_, _≤_, _<_, suc-le-suc, zero-le}
-use native.Mathlib.Nat.{le-refl, le-trans, le-of-eq, add-assoc, add-comm, add-left-comm, mul-assoc, mul-comm, mul-left-comm, mul-add, add-mul, add-le-add, mul-le-mul, mul-le-mul-left, mul-le-mul-right, le-add-right, le-add-left, add-suc, suc-add, suc-mul, zero-mul, mul-zero, add-zero, zero-add}
+use Prim.Native.Nat.{ℕ, zero, suc, _+_, _*_, _≤_, suc-le-suc, zero-le}
+use native.Mathlib.Nat.{le-refl, le-trans, le-of-eq, add-assoc, mul-assoc, mul-left-comm, mul-add, add-mul, add-le-add, mul-le-mul-left, le-add-right, add-suc, suc-add, add-zero, zero-add}
 use native.Mathlib.Omega.{arith}
 
 abbrev pub Seq : Type 0
@@ -66,10 +66,10 @@ conv-scale-right k u v (suc n) =
 
 -- each product u i * v j of the convolution, times k + n = (k + i) + j
 regroup : (k n x y p q : ℕ) → (k + suc n) * (x * y) + (p + q) ≡ k * x * y + p + (x * (suc n * y) + q)
-regroup k n x y p q = simp (mul-add, add-mul, mul-assoc, mul-comm, mul-left-comm, add-assoc, add-comm, add-left-comm) refl
+regroup k n x y p q = omega arith
 
 at-zero : (k x y : ℕ) → (k + zero) * (x * y) ≡ (k + zero) * x * y + x * (zero * y)
-at-zero k x y = simp (zero-mul, mul-zero, zero-add, add-zero, mul-add, add-mul, mul-assoc, mul-comm, mul-left-comm, add-assoc, add-comm, add-left-comm) refl
+at-zero k x y = omega arith
 
 pub weigh : (k : ℕ) (u v : Seq) (n : ℕ) → (k + n) * conv u v n ≡ conv (λ i. (k + i) * u i) v n + conv u (λ j. j * v j) n
 unfolding conv
@@ -87,7 +87,7 @@ abbrev pub tri : Seq → Seq → ℕ → ℕ
 tri u v n = sum (conv u v) n
 
 move : (a b c d : ℕ) → a + b + (c + d) ≡ a + c + (b + d)
-move a b c d = simp (add-assoc, add-comm, add-left-comm) refl
+move a b c d = omega arith
 
 pub tri-front : (u v : Seq) (n : ℕ) → tri u v (suc n) ≡ u zero * sum v (suc n) + tri (shift u) v n
 unfolding sum conv

@@ -1,12 +1,12 @@
--- From the term 3999 on, and at arguments up to 720, the partial sums differ by less than one part in 2 ^ 1000. Assumes nothing.
-use mathlib.Core.Path.{_≡_, refl, sym, ap, _∙_, subst}
-use Prim.Native.Nat.{ℕ, zero, suc, _+_, _-_, _*_, _^_, _≤_, _<_, suc-le-suc, zero-le}
-use native.Mathlib.Nat.{le-refl, le-trans, le-of-eq, le-of-lt, le-dest, add-assoc, add-comm, mul-assoc, mul-comm, mul-left-comm, mul-mul-mul-comm, mul-add, add-mul, add-le-add, mul-le-mul, mul-le-mul-left, mul-le-mul-right, le-add-right, le-add-left, add-suc, suc-add, zero-add, one-mul, mul-one, mul-pos, zero-lt-suc, pow-zero, pow-succ', pow-le-pow-left, le-of-mul-le-mul-right}
+-- From the term 3999 on, and at arguments up to 1000, the partial sums differ by less than one part in 2 ^ 1000. Assumes nothing.
+use mathlib.Core.Path.{_≡_, sym, ap, _∙_, subst}
+use Prim.Native.Nat.{ℕ, zero, suc, _+_, _*_, _^_, _≤_, _<_, suc-le-suc}
+use native.Mathlib.Nat.{le-refl, le-trans, le-of-eq, le-dest, mul-assoc, mul-left-comm, mul-mul-mul-comm, mul-le-mul, mul-le-mul-left, mul-le-mul-right, le-add-right, suc-add, zero-add, one-mul, mul-one, mul-pos, zero-lt-suc, pow-zero, pow-succ', pow-le-pow-left, le-of-mul-le-mul-right}
 use native.Mathlib.Omega.{arith}
 use lib.Dec.{T, leb, leb→le, lit≤}
 use Rattle.series.specs.Series.{top, bot}
 use Rattle.series.proofs.Product.{bot-pos}
-use Rattle.series.proofs.Bounds.{Up, Lo, crown, up-crown, chain}
+use Rattle.series.proofs.Bounds.{Lo, doubled, up-doubled, chain}
 
 pub bot-split : (n b : ℕ) → bot n b ≡ bot n 1 * b ^ n
 unfolding bot
@@ -20,25 +20,25 @@ pow-product x y zero = pow-zero (x * y) ∙ sym ((λ i. pow-zero x i * pow-zero 
 pow-product x y (suc n) =
     pow-succ' (x * y) n ∙ ap (λ (z : ℕ). x * y * z) (pow-product x y n) ∙ mul-mul-mul-comm x y (x ^ n) (y ^ n) ∙ sym (λ i. pow-succ' x n i * pow-succ' y n i)
 
--- 2 ^ 1001 * 720 ^ 4000 ≤ 4000!, which antt computes
-small : T (leb (2 ^ 1001 * 720 ^ 4000) (bot 4000 1))
+-- 2 ^ 1001 * 1000 ^ 4000 ≤ 4000!, which antt computes
+small : T (leb (2 ^ 1001 * 1000 ^ 4000) (bot 4000 1))
 unfolding bot
 small = tt
 
 -- the term 4000 and each later one is below 2 ^ -1001
-term-small : (a b d : ℕ) → a ≤ 720 * b → 2 ^ 1001 * a ^ (d + 4000) ≤ bot (d + 4000) b
+term-small : (a b d : ℕ) → a ≤ 1000 * b → 2 ^ 1001 * a ^ (d + 4000) ≤ bot (d + 4000) b
 unfolding bot
 term-small a b zero h =
     subst (λ (m : ℕ). 2 ^ 1001 * a ^ m ≤ bot m b) (sym (zero-add 4000))
     (le-trans (mul-le-mul-left (2 ^ 1001) (pow-le-pow-left h 4000))
-    (le-trans (le-of-eq (ap (λ (x : ℕ). 2 ^ 1001 * x) (pow-product 720 b 4000) ∙ sym (mul-assoc (2 ^ 1001) (720 ^ 4000) (b ^ 4000))))
-    (le-trans (mul-le-mul-right (b ^ 4000) (leb→le (2 ^ 1001 * 720 ^ 4000) (bot 4000 1) small)) (le-of-eq (sym (bot-split 4000 b))))))
+    (le-trans (le-of-eq (ap (λ (x : ℕ). 2 ^ 1001 * x) (pow-product 1000 b 4000) ∙ sym (mul-assoc (2 ^ 1001) (1000 ^ 4000) (b ^ 4000))))
+    (le-trans (mul-le-mul-right (b ^ 4000) (leb→le (2 ^ 1001 * 1000 ^ 4000) (bot 4000 1) small)) (le-of-eq (sym (bot-split 4000 b))))))
 term-small a b (suc d) h =
     subst (λ (m : ℕ). 2 ^ 1001 * a ^ m ≤ bot m b) (sym (suc-add d 4000))
     (le-trans (le-of-eq (ap (λ (x : ℕ). 2 ^ 1001 * x) (pow-succ' a (d + 4000)) ∙ mul-left-comm (2 ^ 1001) a (a ^ (d + 4000))))
     (mul-le-mul (le-trans h (mul-le-mul-right b (most d))) (term-small a b d h)))
   where
-    most : (d : ℕ) → 720 ≤ suc (d + 4000)
+    most : (d : ℕ) → 1000 ≤ suc (d + 4000)
     most d = omega arith
 
 -- the first term is 1
@@ -48,23 +48,10 @@ one-le zero a b = le-refl 1
 one-le (suc N) a b = le-trans (mul-le-mul-left (suc N * b) (one-le N a b)) (le-add-right (suc N * b * top N a b) (a ^ suc N))
 
 close : (P s t x B u v : ℕ) → 0 < s → u * (s * B) ≤ (s * t + x + x) * v → 2 * P * x ≤ s * B → B ≤ t → u * P * B ≤ t * (v * (P + 1))
-close P s t x B u v h f q o =
-    le-of-mul-le-mul-right {k = s}
-    (le-trans (le-of-eq (simp (mul-assoc, mul-comm, mul-left-comm) refl))
-    (le-trans (mul-le-mul-left P f)
-    (le-trans (le-of-eq (regroup P s t x v))
-    (le-trans (mul-le-mul-right v (add-le-add (le-refl (P * (s * t))) (le-trans q (mul-le-mul-left s o))))
-    (le-of-eq (simp (mul-add, add-mul, mul-one, mul-assoc, mul-comm, mul-left-comm, add-assoc, add-comm) refl))))))
-    h
-  where
-    twice : (x : ℕ) → x + x ≡ 2 * x
-    twice x = omega arith
+close P s t x B u v h f q o = le-of-mul-le-mul-right {k = s} (omega (arith, mul-le-mul-left P f, mul-le-mul-right v (le-trans q (mul-le-mul-left s o)))) h
 
-    regroup : (P s t x v : ℕ) → P * ((s * t + x + x) * v) ≡ (P * (s * t) + 2 * P * x) * v
-    regroup P s t x v = sym (mul-assoc P (s * t + x + x) v) ∙ ap (λ (z : ℕ). z * v) (ap (λ (z : ℕ). P * z) (add-assoc (s * t) x x) ∙ mul-add P (s * t) (x + x) ∙ ap (λ (z : ℕ). P * (s * t) + z) (ap (λ (z : ℕ). P * z) (twice x) ∙ mul-left-comm P 2 x ∙ sym (mul-assoc 2 P x)))
-
-unfold-bound : (N a b u v : ℕ) → u * bot (suc N) b ≤ crown N a b * v → u * (suc N * b * bot N b) ≤ (suc N * b * top N a b + a ^ suc N + a ^ suc N) * v
-unfolding crown top bot
+unfold-bound : (N a b u v : ℕ) → u * bot (suc N) b ≤ doubled N a b * v → u * (suc N * b * bot N b) ≤ (suc N * b * top N a b + a ^ suc N + a ^ suc N) * v
+unfolding doubled top bot
 unfold-bound N a b u v f = f
 
 unfold-small : (N a b : ℕ) → 2 ^ 1001 * a ^ suc N ≤ bot (suc N) b → 2 * 2 ^ 1000 * a ^ suc N ≤ suc N * b * bot N b
@@ -75,11 +62,11 @@ shuffle : (d N : ℕ) → 3999 + d ≡ N → d + 4000 ≡ suc N
 shuffle d N e = omega arith
 
 -- what some partial sum reaches, each from the term 3999 on reaches but for a part in 2 ^ 1000
-pub settle : {a b u v : ℕ} → 0 < b → a ≤ 720 * b → Lo a b u v → (N : ℕ) → 3999 ≤ N → u * 2 ^ 1000 * bot N b ≤ top N a b * (v * (2 ^ 1000 + 1))
+pub settle : {a b u v : ℕ} → 0 < b → a ≤ 1000 * b → Lo a b u v → (N : ℕ) → 3999 ≤ N → u * 2 ^ 1000 * bot N b ≤ top N a b * (v * (2 ^ 1000 + 1))
 settle {a} {b} {u} {v} h l p N g =
     let n = p .terms in
-    let w : 2 * a ≤ suc (suc N) * b = le-trans (mul-le-mul-left 2 l) (le-trans (le-of-eq (sym (mul-assoc 2 720 b))) (mul-le-mul-right b (le-trans (lit≤ tt) (suc-le-suc (suc-le-suc g))))) in
-    let first : u * bot (suc N) b ≤ crown N a b * v = chain u (top n a b) (crown N a b) v (bot n b) (bot (suc N) b) (bot-pos n b h) (p .bound) (up-crown N a b h w .bound n) in
+    let w : 2 * a ≤ suc (suc N) * b = le-trans (mul-le-mul-left 2 l) (le-trans (le-of-eq (sym (mul-assoc 2 1000 b))) (mul-le-mul-right b (le-trans (lit≤ tt) (suc-le-suc (suc-le-suc g))))) in
+    let first : u * bot (suc N) b ≤ doubled N a b * v = chain u (top n a b) (doubled N a b) v (bot n b) (bot (suc N) b) (bot-pos n b h) (p .bound) (up-doubled N a b h w .bound n) in
     let d = le-dest g in
     let M : d .0 + 4000 ≡ suc N = shuffle (d .0) N (d .1) in
     let q : 2 ^ 1001 * a ^ suc N ≤ bot (suc N) b = subst (λ (m : ℕ). 2 ^ 1001 * a ^ m ≤ bot m b) M (term-small a b (d .0) l) in

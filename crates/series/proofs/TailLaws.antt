@@ -1,15 +1,14 @@
--- From 4,000 terms on, at arguments of size at most 720, any two partial sums are equal but for one part in 2^1000. Assumes nothing.
-use mathlib.Core.Path.{_≡_, refl, sym, ap, _∙_, subst}
-use Prim.Native.Nat.{ℕ, zero, suc, _+_, _*_, _^_, _≤_, _<_}
-use native.Mathlib.Nat.{mul-pos, mul-comm, mul-assoc, mul-left-comm, mul-one, le-refl, le-trans, le-of-eq, zero-lt-suc}
+-- From 4,000 terms on, at arguments of size at most 1000, any two partial sums are equal but for one part in 2^1000. Assumes nothing.
+use mathlib.Core.Path.{sym}
+use Prim.Native.Nat.{ℕ, _+_, _*_, _^_, _≤_, _<_}
+use native.Mathlib.Nat.{mul-pos, mul-one, le-refl, le-trans, le-of-eq, zero-lt-suc}
 use native.Mathlib.Omega.{arith}
 use lib.Pow.{pow-pos}
 use Rattle.exact.specs.Fraction.{ℚ, _//_, nat, _+q_, negq, _*q_, absq, _≤q_, _≈q_}
-use Rattle.exact.proofs.FractionLaws.{≈-refl, ≈-sym, *-cong, +-cong, neg-cong, neg-mono, ≤-of-≈, ≤-trans}
+use Rattle.exact.proofs.FractionLaws.{≈-refl, ≈-sym, *-cong, +-cong, neg-cong, ≤-of-≈, ≤-trans}
 use Rattle.exact.proofs.Closeness.{le-abs, neg-le-abs}
 use Rattle.series.specs.Series.{E, Enough, top, bot}
 use Rattle.series.proofs.Product.{bot-pos}
-use Rattle.series.proofs.Bounds.{Lo}
 use Rattle.series.proofs.Tail.{settle}
 use Rattle.series.proofs.Quotients.{_⟫_, frac-≤, frac-*, frac-+, frac-nat, frac-one, cross-≤, Sign, above, below, sign-of}
 use Rattle.series.proofs.AtFractions.{top-pos, E-above, E-below}
@@ -17,7 +16,7 @@ use Rattle.series.proofs.Order.{sandwich, neg-neg}
 use Rattle.series.proofs.Alike.{Alike}
 
 pub record Moderate (x : ℚ) : Type 0 where
-  pub size : absq x ≤q nat 720
+  pub size : absq x ≤q nat 1000
 
 abbrev pub tail : ℚ
 tail = 1 // 2 ^ 1000
@@ -29,7 +28,7 @@ times-factor : {y : ℚ} (t b P : ℕ) → 0 < b → 0 < P → y ≈q t // b →
 times-factor t b P B h e = *-cong e (factor-is P h) ⟫ frac-* t (P + 1) B h
 
 -- the terms of the larger sum, over the smaller one's
-between : (N M a b : ℕ) → 0 < b → a ≤ 720 * b → Enough N → top M a b * (bot N b * 2 ^ 1000) ≤ top N a b * (2 ^ 1000 + 1) * bot M b
+between : (N M a b : ℕ) → 0 < b → a ≤ 1000 * b → Enough N → top M a b * (bot N b * 2 ^ 1000) ≤ top N a b * (2 ^ 1000 + 1) * bot M b
 between N M a b B l n = sorted (2 ^ 1000) (2 ^ 1000 + 1) (top M a b) (top N a b) (bot M b) (bot N b) (settle {u = top M a b} {v = bot M b} B l (record { terms = M; bound = le-refl (top M a b * bot M b) }) N (omega arith))
   where
     sorted : (P Q tM tN bM bN : ℕ) → tM * P * bN ≤ tN * (bM * Q) → tM * (bN * P) ≤ tN * Q * bM
@@ -42,8 +41,8 @@ module _ {N M : ℕ} {x : ℚ} (n : Enough N) (m : Enough M) (s : Moderate x) wh
       B : 0 < x .d * 1
       B = mul-pos (x .d-pos) (zero-lt-suc 0)
 
-      small : (a : ℕ) → a // (x .d * 1) ≤q nat 720 → a ≤ 720 * (x .d * 1)
-      small a h = le-trans (le-of-eq (sym (mul-one a))) (cross-≤ a 720 B (zero-lt-suc 0) (≤-trans h (≤-of-≈ (≈-sym (frac-nat 720)))))
+      small : (a : ℕ) → a // (x .d * 1) ≤q nat 1000 → a ≤ 1000 * (x .d * 1)
+      small a h = le-trans (le-of-eq (sym (mul-one a))) (cross-≤ a 1000 B (zero-lt-suc 0) (≤-trans h (≤-of-≈ (≈-sym (frac-nat 1000)))))
 
       go : Sign x (x .d * 1) → E M x ≤q E N x *q (nat 1 +q tail)
       go (above a e) =

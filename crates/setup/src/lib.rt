@@ -2,6 +2,13 @@
 // `bind_extra_nodes` of mosfet1.rs).
 ghost use mathlib.Core.Path.{_≡_};
 ghost use Prim.Native.Nat.{_+_, _<_, _^_};
+ghost use Rattle.setup.specs.Scaling.{
+  scaledAt,
+  potentialsLow,
+  scaledStage,
+  scaledTo,
+  scalingOf,
+};
 ghost use Rattle.setup.specs.Binding.{
   extra,
   extraNodes,
@@ -14,15 +21,102 @@ ghost use Rattle.setup.specs.Binding.{
   boundTo,
   bindingOf,
 };
+use device::Card;
 use device::Mosfet1;
 use device::NodeId;
+use device::Scaled;
 use device::Stage;
 use device::Terminals;
+use temperature::Kelvin;
 
 // The device after a scaling or a binding, or the number of the refusal.
 pub enum SetupAnswer {
     Done(Mosfet1),
     Refused(u8),
+}
+
+// The parameters at a temperature, from the card's.
+fn scaled_at(card: Card, t: Kelvin) -> Scaled
+    ensures { λ r. ⌜ r ≡ scaledAt card (t .0) ⌝ }
+{
+    let tnom = card.tnom;
+    let phi_t = temperature::scaled_phi(card.phi, t, tnom);
+    let is_pmos = card.polarity < 0.0;
+    let vto_t = temperature::scaled_vto(card.vto, card.gamma, card.phi, phi_t, t, tnom, is_pmos);
+    Scaled {
+        isat_t_factor: temperature::mos_junction_is_factor(t, tnom),
+        pb_t: temperature::scaled_junction_potential(card.pb, t, tnom),
+        cj_t_factor: temperature::junction_cap_factor(card.pb, card.mj, t, tnom),
+        cjsw_t_factor: temperature::junction_cap_factor(card.pb, card.mjsw, t, tnom),
+        vto_t,
+        kp_t: card.kp * temperature::mobility_factor(t, tnom),
+        phi_t,
+    }
+}
+
+// Row 7.
+fn potentials_low(s: Scaled) -> bool
+    ensures { λ r. ⌜ r ≡ potentialsLow s ⌝ }
+{
+    if s.phi_t < 0.05 {
+        return true;
+    }
+    s.pb_t < 0.05
+}
+
+// A later stage stays.
+fn scaled_stage(stage: Stage) -> Stage
+    ensures { λ r. ⌜ r ≡ scaledStage stage ⌝ }
+{
+    if device::before(stage, Stage::Scaled) {
+        Stage::Scaled
+    } else {
+        stage
+    }
+}
+
+fn scaled_to(device: Mosfet1, scaled: Scaled) -> Mosfet1
+    ensures { λ r. ⌜ r ≡ scaledTo device scaled ⌝ }
+{
+    let card = device.card;
+    let geometry = device.geometry;
+    let terminals = device.terminals;
+    let point = device.point;
+    let charges = device.charges;
+    let histories = device.histories;
+    let disc = device.disc;
+    let old = device.stage;
+    let stage = scaled_stage(old);
+    Mosfet1 {
+        card,
+        geometry,
+        scaled,
+        terminals,
+        point,
+        charges,
+        histories,
+        disc,
+        stage,
+    }
+}
+
+// Scales the device's parameters to a temperature.
+pub fn setup_model(device: Mosfet1, temperature: Kelvin) -> SetupAnswer
+    ensures { λ r. ⌜ r ≡ scalingOf device temperature ⌝ }
+{
+    if device::outside_temperatures(temperature) {
+        return SetupAnswer::Refused(6);
+    }
+    let card = device.card;
+    let scaled = scaled_at(card, temperature);
+    if potentials_low(scaled) {
+        return SetupAnswer::Refused(7);
+    }
+    let stage = device.stage;
+    if device::before(stage, Stage::Geometry) {
+        return SetupAnswer::Refused(10);
+    }
+    SetupAnswer::Done(scaled_to(device, scaled))
 }
 
 // A series resistance above 0 has a node of its own.

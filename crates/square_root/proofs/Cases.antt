@@ -41,6 +41,10 @@ infinite (fin s m d) e f = clash f
 positive : (m : ℕ) (d : ℤ) → 0 < suc m * up d * 1
 positive m d = mul-pos (mul-pos (zero-lt-suc m) (up-pos d)) (zero-lt-suc 0)
 
+pub above-zero : (m : ℕ) (d : ℤ) → lt zero-float (fin false (suc m) d) ≡ true
+unfolding lt
+above-zero m d = lt-ltb (0 * 1 * down d) (suc m * up d * 1) (subst (λ (z : ℕ). z < suc m * up d * 1) (sym (zero-mul (down d))) (positive m d))
+
 -- equal to zero: a zero
 pub is-zero : (x : Float) → eq x zero-float ≡ true → x ≡ sqrtOf x
 unfolding eq sqrtOf
@@ -72,7 +76,7 @@ otherwise (inf false) e f = clash e
 otherwise (inf true) e f = refl
 otherwise (fin s zero d) e f = clash (sym (zero-level s (0 * up d * 1) (0 * 1 * down d) (ap (λ (z : ℕ). z * 1) (zero-mul (up d))) (zero-mul (down d))) ∙ f)
 otherwise (fin true (suc m) d) e f = refl
-otherwise (fin false (suc m) d) e f = clash (sym (lt-ltb (0 * 1 * down d) (suc m * up d * 1) (subst (λ (z : ℕ). z < suc m * up d * 1) (sym (zero-mul (down d))) (positive m d))) ∙ e)
+otherwise (fin false (suc m) d) e f = clash (sym (above-zero m d) ∙ e)
 
 -- ---- above zero and below the infinity: so is the pattern
 odd-neg : (q k : ℕ) → lt zero-float (odd 53 true q k 1074) ≡ false

@@ -2,18 +2,19 @@
 use mathlib.Core.Path.{_≡_, refl, sym, ap, _∙_, subst}
 use mathlib.Core.Bool.{Bool, true, false, cond}
 use Prim.Native.Nat.{ℕ, zero, suc, _+_, _-_, _*_, _/_, _%_, _^_, _≤_, _<_}
-use native.Mathlib.Nat.{le-trans, le-of-eq, lt-of-lt-of-le, lt-of-not-le, not-le-of-lt, zero-lt-suc, mul-assoc, mul-one, mul-right-comm, mul-le-mul-right, mul-lt-mul-of-pos-right, mul-div-cancel, mod-eq-of-lt, add-comm, mul-pos}
+use native.Mathlib.Nat.{le-trans, le-of-eq, lt-of-lt-of-le, lt-of-not-le, not-le-of-lt, mul-assoc, mul-one, mul-right-comm, mul-le-mul-right, mul-lt-mul-of-pos-right, mul-div-cancel, mod-eq-of-lt, add-comm, mul-pos}
 use native.Mathlib.Decide.{decLe}
 use native.Mathlib.Omega.{arith}
 use lib.Dec.{T, leb, ltb, eqb, leb→le, eqb→eq, not-T}
 use lib.Pow.{pow-add, pow-mono, pow-pos}
 use lib.Count.{leadingZeros, leading-top}
 use lib.Ieee.{Float, nan, inf, fin, binary64, up, down, odd, ofFields, ofBits}
-use lib.Ieee.Fits.{up-pos, down-pos}
+use lib.Ieee.Fits.{down-pos}
 use lib.Ieee.Bits.{is-false, cond-no}
 use lib.Ieee.Exact.{HasValue, odd-sign}
 use borrow.Author.Tests.{lt-ltb, le-ltb}
 use Rattle.square_root.specs.SquareRoot.{rootOf, sqrtOf}
+use Rattle.square_root.proofs.RootDigits.{Scaled, scaled}
 
 -- ---- the number that a pattern below the infinity's stands for, in units of the smallest value
 unfoldable pub unitsOf : ℕ → ℕ
@@ -146,3 +147,22 @@ units-pos b h = either (decLe (2 ^ 52) b)
 
 pub root-of-pattern : (b : ℕ) → 0 < b → b < 2047 * 2 ^ 52 → sqrtOf (ofBits binary64 b) ≡ rootOf (unitsOf b * 2 ^ 1074)
 root-of-pattern b h k = root-of-units (ofBits binary64 b) (unitsOf b) (units-pos b h) (units-of-pattern b k)
+
+-- ---- the square of the root, in squares of the unit: N * 4 ^ k
+pub scaled-of-pattern : (b : ℕ) → 0 < b → b < 2047 * 2 ^ 52 → (N : ℕ) × (k : ℕ) × Scaled (unitsOf b * 2 ^ 1074) N k
+scaled-of-pattern b h t = either (decLe (2 ^ 52) b)
+  where
+    low : (z : ℕ) → z ≤ 63 → 104 ≤ 1085 - z
+    low z h = omega arith
+
+    high : (z : ℕ) → 1085 - z ≤ 3200
+    high z = omega arith
+
+    either : Dec (2 ^ 52 ≤ b) → (N : ℕ) × (k : ℕ) × Scaled (unitsOf b * 2 ^ 1074) N k
+    either (yes g) = subst (λ (A : ℕ). (N : ℕ) × (k : ℕ) × Scaled A N k) (normal b g) (_, _, scaled (b % 2 ^ 52 + 2 ^ 52) (omega arith) (omega arith) (1073 + b / 2 ^ 52) (omega arith) (omega arith))
+    either (no f) =
+        let g : b < 2 ^ 52 = lt-of-not-le f in
+        let z = leadingZeros 64 b in
+        let l = lead b h g in
+        subst (λ (A : ℕ). (N : ℕ) × (k : ℕ) × Scaled A N k) (ap (λ (x : ℕ). x * 2 ^ (1085 - z)) (sym (l .same)) ∙ subnormal b z g l)
+        (_, _, scaled (b * 2 ^ (z - 11)) (l .from) (l .below) (1085 - z) (low z (l .high)) (high z))

@@ -4,3 +4,9 @@ pub mod Patterns
 pub mod RootDigits
 pub mod Digits
 pub mod Cases
+pub mod SpecialCases
+pub mod Neighbours
+pub mod UnitFractions
+pub mod Rooted
+pub mod CorrectlyRounded
+pub mod RootBounds

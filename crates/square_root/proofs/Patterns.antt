@@ -1,19 +1,18 @@
 -- Bit patterns of positive numbers: what a pattern stands for, and the pattern of q * 2 ^ k units.
-use mathlib.Core.Path.{_≡_, refl, sym, ap, _∙_, subst}
-use mathlib.Core.Bool.{Bool, true, false, cond, not}
-use mathlib.Core.Logic.{_⊎_, inl, inr}
-use Prim.Native.Nat.{ℕ, zero, suc, _+_, _-_, _*_, _/_, _%_, _^_, _≤_, _<_}
-use native.Mathlib.Nat.{le-trans, le-of-eq, le-antisymm, lt-of-lt-of-le, lt-of-le-of-lt, lt-of-not-le, not-le-of-lt, mul-comm, mul-one, mul-le-mul-right, mul-lt-mul-of-pos-right, mul-div-cancel, mod-eq-of-lt, add-comm, add-sub-cancel-left, eq-or-lt-of-le}
-use native.Mathlib.Decide.{decLe}
+use mathlib.Core.Path.{_≡_, sym, ap, _∙_, subst}
+use mathlib.Core.Bool.{Bool, false, cond, not}
+use mathlib.Core.Logic.{inl, inr}
+use Prim.Native.Nat.{ℕ, suc, _+_, _-_, _*_, _/_, _%_, _^_, _≤_, _<_}
+use native.Mathlib.Nat.{le-trans, le-of-eq, le-antisymm, lt-of-lt-of-le, lt-of-le-of-lt, lt-of-not-le, not-le-of-lt, mul-le-mul-right, mul-lt-mul-of-pos-right, mul-div-cancel, add-sub-cancel-left, eq-or-lt-of-le}
 use native.Mathlib.Omega.{arith}
-use lib.Dec.{T, leb, ltb, eqb, leb→le, eqb→eq, not-T, lit<}
+use lib.Dec.{T, ltb, lit<}
 use lib.Pow.{pow-pos, pow-add, pow-mono, pow-lt}
-use lib.Ieee.{Float, nan, inf, fin, binary64, up, down, size, odd, units, ofFields, ofBits, toBits, fits, nanBits}
+use lib.Ieee.{Float, nan, inf, fin, binary64, up, down, size, odd, units, ofBits, toBits, fits, nanBits}
 use lib.Ieee.Fits.{down-pos, odd-fits, cond-fits, inf-fits}
-use lib.Ieee.Bits.{is-false, cond-no, ofBits-toBits, nanBits-above}
-use lib.Ieee.Exact.{HasValue, odd-sign, units-val}
+use lib.Ieee.Bits.{ofBits-toBits, nanBits-above}
+use lib.Ieee.Exact.{HasValue, units-val}
 use lib.Ieee.Digits.{size-lt, size-le}
-use borrow.Author.Tests.{lt-ltb, le-ltb}
+use borrow.Author.Tests.{le-ltb}
 
 -- a pattern below that of the infinity is no NaN's
 pub no-nan : (n : ℕ) → n < 2047 * 2 ^ 52 → T (not (nanBits binary64 n))
@@ -79,20 +78,24 @@ module _ (q k : ℕ) (lo : 2 ^ 52 ≤ q) where
       last : (k q : ℕ) → q ≡ 2 ^ 53 → suc k * 2 ^ 52 + 2 ^ 52 ≡ k * 2 ^ 52 + q
       last k q e = omega arith
 
-  pub pattern-of-units : q ≤ 2 ^ 53 → k ≤ 2000 → ofBits binary64 (k * 2 ^ 52 + q) ≡ units binary64 false q k
-  unfolding units
-  pattern-of-units hi top =
-      ap (λ (b : ℕ). ofBits binary64 b) (sym (bits-of x a (units-val binary64 false q k under) ∙ elim (eq-or-lt-of-le hi) [
-        | inl e ↦ at-top e
-        | inr h ↦ below-top h
-      ]))
-      ∙ ofBits-toBits binary64 x (cond-fits binary64 (ltb a (2 ^ 2098)) (odd 54 false q k 1074) (inf false) (odd-fits binary64 54 false q k (lt-of-le-of-lt hi (lit< tt)) hi under) (inf-fits binary64 false))
-    where
-      x : Float
-      x = units binary64 false q k
+  module _ (hi : q ≤ 2 ^ 53) (top : k ≤ 2000) where
+    under : a < 2 ^ 2098
+    under = lt-of-le-of-lt (le-trans (mul-le-mul-right (2 ^ k) hi) (le-of-eq (sym (pow-add 2 53 k)))) (pow-lt (room k top))
+      where
+        room : (k : ℕ) → k ≤ 2000 → 53 + k < 2098
+        room k h = omega arith
 
-      room : (k : ℕ) → k ≤ 2000 → 53 + k < 2098
-      room k h = omega arith
+    pub units-value : HasValue (units binary64 false q k) false (q * 2 ^ k) (2 ^ 1074)
+    units-value = units-val binary64 false q k under
 
-      under : a < 2 ^ 2098
-      under = lt-of-le-of-lt (le-trans (mul-le-mul-right (2 ^ k) hi) (le-of-eq (sym (pow-add 2 53 k)))) (pow-lt (room k top))
+    pub units-fit : T (fits binary64 (units binary64 false q k))
+    unfolding units
+    units-fit = cond-fits binary64 (ltb a (2 ^ 2098)) (odd 54 false q k 1074) (inf false) (odd-fits binary64 54 false q k (lt-of-le-of-lt hi (lit< tt)) hi under) (inf-fits binary64 false)
+
+    pub pattern-of-units : ofBits binary64 (k * 2 ^ 52 + q) ≡ units binary64 false q k
+    pattern-of-units =
+        ap (λ (b : ℕ). ofBits binary64 b) (sym (bits-of (units binary64 false q k) a units-value ∙ elim (eq-or-lt-of-le hi) [
+          | inl e ↦ at-top e
+          | inr h ↦ below-top h
+        ]))
+        ∙ ofBits-toBits binary64 (units binary64 false q k) units-fit

@@ -2,7 +2,7 @@
 use mathlib.Core.Path.{_≡_, refl, sym, ap, _∙_, subst}
 use mathlib.Core.Bool.{false}
 use Prim.Native.Nat.{ℕ, zero, suc, _+_, _-_, _*_, _/_, _%_, _^_, _≤_, _<_}
-use native.Mathlib.Nat.{le-refl, le-trans, le-of-eq, le-antisymm, lt-of-le-of-lt, lt-of-lt-of-le, lt-of-not-le, not-le-of-lt, mul-assoc, mul-comm, mul-mul-mul-comm, mul-le-mul-right, mul-lt-mul-of-pos-right, mul-pos, mul-div-cancel, pow-zero, pow-succ', add-sub-cancel-left}
+use native.Mathlib.Nat.{le-trans, le-of-eq, le-antisymm, lt-of-le-of-lt, lt-of-lt-of-le, lt-of-not-le, mul-assoc, mul-mul-mul-comm, mul-le-mul-right, mul-lt-mul-of-pos-right, mul-pos, mul-div-cancel, pow-succ', add-sub-cancel-left}
 use native.Mathlib.Decide.{decLe}
 use native.Mathlib.Omega.{arith}
 use lib.Pow.{pow-pos, pow-add, pow-mono}
@@ -57,25 +57,51 @@ module _ (N k : ℕ) (lo : 2 ^ 104 ≤ N) (hi : N < 2 ^ 106) where
       ap (λ (j : ℕ). units binary64 false (nearestRoot (A / 4 ^ j)) j) dropped
       ∙ ap (λ (n : ℕ). units binary64 false (nearestRoot n) k) (mul-div-cancel N (four-pos k))
 
--- ---- the pattern of the root of d * 2 ^ e / 2 ^ 2148, by the root of N = d * 2 ^ t
-at : (d e t k q : ℕ) → t + (k + k) ≡ e → k ≤ 2000 → 2 ^ 104 ≤ d * 2 ^ t → d * 2 ^ t < 2 ^ 106 → q ≡ nearestRoot (d * 2 ^ t) → ofBits binary64 (k * 2 ^ 52 + q) ≡ rootOf (d * 2 ^ e)
-at d e t k q h top lo hi is =
-    let N = d * 2 ^ t in
-    let r = subst (λ (q : ℕ). Nearest N q) (sym is) (nearest-root N (lt-of-lt-of-le (pow-pos 104) lo)) in
-    pattern-of-units q k (nearest-lo N q r lo) (nearest-hi N q r hi) top
-    ∙ ap (λ (q : ℕ). units binary64 false q k) is
-    ∙ sym (root-digits N k lo hi)
-    ∙ ap rootOf (ap (λ (z : ℕ). N * z) (four-is k ∙ sym (pow-add 2 k k)) ∙ mul-assoc d (2 ^ t) (2 ^ (k + k)) ∙ ap (λ (z : ℕ). d * z) (sym (pow-add 2 t (k + k)) ∙ ap (λ (z : ℕ). 2 ^ z) h))
+-- ---- A is N * 4 ^ k, and the root of N has 53 digits
+pub record Scaled (A N k : ℕ) : Type 0 where
+  pub is : A ≡ N * 4 ^ k
+  pub low : 2 ^ 104 ≤ N
+  pub high : N < 2 ^ 106
+  pub top : k ≤ 2000
 
-module _ (d e q : ℕ) (lo : 2 ^ 52 ≤ d) (hi : d < 2 ^ 53) (from : 104 ≤ e) (to : e ≤ 3200) where
-  pub even : e % 2 ≡ 0 → q ≡ nearestRoot (d / 2 ^ 12 * 2 ^ 64 + (d * 2 ^ 52) % 2 ^ 64) → ofBits binary64 ((e - 52) / 2 * 2 ^ 52 + q) ≡ rootOf (d * 2 ^ e)
-  even p is = at d e 52 ((e - 52) / 2) q (omega arith) (omega arith) (omega arith) (omega arith) (is ∙ ap nearestRoot (words d))
-    where
-      words : (d : ℕ) → d / 2 ^ 12 * 2 ^ 64 + (d * 2 ^ 52) % 2 ^ 64 ≡ d * 2 ^ 52
-      words d = omega arith
+pub nearest-of : {A N k : ℕ} → Scaled A N k → Nearest N (nearestRoot N)
+nearest-of {A} {N} {k} s = nearest-root N (lt-of-lt-of-le (pow-pos 104) (s .low))
 
-  pub uneven : (e % 2 ≡ 0 → ⊥) → q ≡ nearestRoot (d / 2 ^ 11 * 2 ^ 64 + (d * 2 ^ 53) % 2 ^ 64) → ofBits binary64 ((e - 53) / 2 * 2 ^ 52 + q) ≡ rootOf (d * 2 ^ e)
-  uneven p is = at d e 53 ((e - 53) / 2) q (omega arith) (omega arith) (omega arith) (omega arith) (is ∙ ap nearestRoot (words d))
-    where
-      words : (d : ℕ) → d / 2 ^ 11 * 2 ^ 64 + (d * 2 ^ 53) % 2 ^ 64 ≡ d * 2 ^ 53
-      words d = omega arith
+pub root-of : {A N k : ℕ} → Scaled A N k → rootOf A ≡ units binary64 false (nearestRoot N) k
+root-of {A} {N} {k} s = ap rootOf (s .is) ∙ root-digits N k (s .low) (s .high)
+
+pub root-pattern : {A N k : ℕ} (q : ℕ) → Scaled A N k → q ≡ nearestRoot N → ofBits binary64 (k * 2 ^ 52 + q) ≡ rootOf A
+root-pattern {A} {N} {k} q s e =
+    let r = nearest-of s in
+    ap (λ (q : ℕ). ofBits binary64 (k * 2 ^ 52 + q)) e ∙ pattern-of-units (nearestRoot N) k (nearest-lo N (nearestRoot N) r (s .low)) (nearest-hi N (nearestRoot N) r (s .high)) (s .top) ∙ sym (root-of s)
+
+-- ---- d * 2 ^ e for a d of 53 digits: t is 1 where e is odd
+module _ (d : ℕ) (lo : 2 ^ 52 ≤ d) (hi : d < 2 ^ 53) where
+  in-range : (t : ℕ) → t < 2 → (2 ^ 104 ≤ d * 2 ^ (52 + t)) × (d * 2 ^ (52 + t) < 2 ^ 106)
+  in-range zero h = omega arith
+  in-range (suc zero) h = omega arith
+  in-range (suc (suc t)) h = omega arith
+
+  -- the two words of d << (52 + t)
+  pub words : (t : ℕ) → t < 2 → d / 2 ^ (12 - t) * 2 ^ 64 + (d * 2 ^ (52 + t)) % 2 ^ 64 ≡ d * 2 ^ (52 + t)
+  words zero h = omega arith
+  words (suc zero) h = omega arith
+  words (suc (suc t)) h = omega arith
+
+  pub upper-word : (t : ℕ) → t < 2 → (0 < d / 2 ^ (12 - t)) × (d / 2 ^ (12 - t) < 2 ^ 42)
+  upper-word zero h = omega arith
+  upper-word (suc zero) h = omega arith
+  upper-word (suc (suc t)) h = omega arith
+
+  pub scaled : (e : ℕ) → 104 ≤ e → e ≤ 3200 → Scaled (d * 2 ^ e) (d * 2 ^ (52 + e % 2)) ((e - 52) / 2)
+  scaled e from to =
+      let t = e % 2 in
+      let k = (e - 52) / 2 in
+      let T : t < 2 = omega arith in
+      let h : 52 + t + (k + k) ≡ e = omega arith in
+      record {
+        is = ap (λ (z : ℕ). d * z) (ap (λ (z : ℕ). 2 ^ z) (sym h) ∙ pow-add 2 (52 + t) (k + k) ∙ ap (λ (z : ℕ). 2 ^ (52 + t) * z) (pow-add 2 k k ∙ sym (four-is k))) ∙ sym (mul-assoc d (2 ^ (52 + t)) (4 ^ k));
+        low = in-range t T .0;
+        high = in-range t T .1;
+        top = omega arith;
+      }

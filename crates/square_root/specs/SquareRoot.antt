@@ -1,6 +1,6 @@
 -- The square root of a binary64 value, rounded once. That it is the nearest value is a law (`CorrectlyRounded`).
 use Prim.Native.Nat.{ℕ, zero, suc, _+_, _-_, _*_, _/_, _^_}
-use mathlib.Core.Bool.{Bool, true, false, cond}
+use mathlib.Core.Bool.{true, false, cond}
 use lib.Dec.{leb, ltb}
 use lib.Ieee.{Float, nan, inf, fin, binary64, up, down, size, units}
 

@@ -20,22 +20,22 @@ fn product_less(a: u64, b: u64, hi: u64, lo: u64) -> bool
     l < lo
 }
 
-// About 2^52 times the root of the number from 1 up to 4 whose pattern is bits: Newton's steps for the reciprocal root.
+// About 2^52 times the root of the number from 1 up to 4 whose pattern is bits: two of Heron's steps, then a correction by what is left of the number, which is exact for the upper half of the digits.
 fn guess(bits: u64) -> u64
     requires { ⌜ (0x3ff0_0000_0000_0000 ≤ bits) × (bits < 0x4010_0000_0000_0000) ⌝ }
 {
     let m = f64::from_bits(bits);
-    let h = m * 0.5;
-    let mut y = f64::from_bits(0x5fe6_eb50_c7b5_37a9 - (bits >> 1));
-    y = y * (1.5 - h * y * y);
-    y = y * (1.5 - h * y * y);
-    y = y * (1.5 - h * y * y);
-    y = y * (1.5 - h * y * y);
-    let g = m * y * 4503599627370496.0;
-    if g > -1.0 {
-        if g < 18446744073709551616.0 {
-            return std::num::truncating_f64_to_u64(g);
-        }
+    let mut s = f64::from_bits(0x1ff7_a3be_a91d_9b1b + (bits >> 1));
+    s = 0.5 * (s + m / s);
+    s = 0.5 * (s + m / s);
+    let c = s * 134217729.0;
+    let upper = c - (c - s);
+    let inverse = 0.5 / upper;
+    let d = (m - upper * upper) * inverse;
+    let g = upper * 4503599627370496.0 + (d - d * d * inverse) * 4503599627370496.0;
+    // from 2^52 up to 2^53 a float's bits count the whole numbers
+    if g > 0.0 {
+        return std::num::wrapping_sub_u64(f64::to_bits(g), 0x4320_0000_0000_0000);
     }
     0
 }
@@ -58,26 +58,15 @@ fn nearest_root(guess: u64, hi: u64, lo: u64) -> u64
     q
 }
 
-// The pattern of the root of digits * 2^e / 2^2148: the root of digits * 2^52 or of digits * 2^53, by the parity of e, has 53 digits.
+// The pattern of the root of digits * 2^e / 2^2148: the root of digits * 2^52, or of digits * 2^53 where e is odd, has 53 digits.
 fn scaled_root(digits: u64, e: u64) -> u64
     requires { ⌜ (2 ^ 52 ≤ digits) × (digits < 2 ^ 53) × (104 ≤ e) × (e ≤ 3200) ⌝ }
     ensures { λ r. ⌜ (ofBits binary64 r ≡ rootOf (digits * 2 ^ e)) × (r < 2047 * 2 ^ 52) ⌝ }
 {
-    if e % 2 == 0 {
-        let q = nearest_root(
-            guess(digits + 0x3fe0_0000_0000_0000),
-            digits >> 12,
-            digits << 52,
-        );
-        ((e - 52) / 2) * 0x10_0000_0000_0000 + q
-    } else {
-        let q = nearest_root(
-            guess(digits + 0x3ff0_0000_0000_0000),
-            digits >> 11,
-            digits << 53,
-        );
-        ((e - 53) / 2) * 0x10_0000_0000_0000 + q
-    }
+    let t = e % 2;
+    let g = guess(digits + (0x3fe + t) * 0x10_0000_0000_0000);
+    let q = nearest_root(g, digits >> (12 - t), digits << (52 + t));
+    ((e - 52) / 2) * 0x10_0000_0000_0000 + q
 }
 
 // The pattern of the root of the positive finite number whose pattern is bits. A subnormal's digits are moved up first.

@@ -2,7 +2,7 @@
 -- Every t and tnom is in kelvin; T below stands for the one, TNOM for the other.
 use mathlib.Core.Bool.{Bool, _||_, cond}
 use lib.Ieee.{Float, neg}
-use Rattle.exact.specs.Float64.{_⊕_, _⊖_, _⊗_, _⊘_, _≤f_, _=f_, +0, +1, -1, maximum}
+use Rattle.exact.specs.Float64.{_⊕_, _⊖_, _⊗_, _⊘_, _≤f_, _=f_, +0, +1, maximum}
 use Rattle.elementary.specs.Functions.{sqrtOf, expOf, lnOf, powOf}
 use Rattle.temperature.specs.Constants.{boltz, charge, reftempK, gap0, gapSlope, gapOffset, gapRef, capSlope, half, 3/2, two}
 

@@ -1,9 +1,8 @@
 -- `exponential::exp` meets its contract. Assumes nothing.
-use mathlib.Core.Path.{_≡_, refl, sym, ap, _∙_, subst}
-use lib.Dec.{T}
-use lib.Ieee.{Float, binary64, ofBits, div, neg}
+use mathlib.Core.Path.{refl, ap, _∙_}
+use lib.Ieee.{Float, ofBits, div}
 use Rattle.exact.specs.Float64.{_⊘_, +1}
-use Rattle.exponential.specs.Exponential.{expOf, expAbove}
+use Rattle.exponential.specs.Exponential.{expOf}
 use Rattle.exponential.proofs.Ranges.{cond-yes, cond-else, above, below}
 use Rattle.exponential.proofs.exp.Statement.{statement}
 use Rattle.exponential.proofs.exp.Tie as tie

@@ -1,137 +1,81 @@
 -- `exponential::exp_tab` meets its contract. Assumes nothing.
 use borrow.Author.Needs.{needs}
-use mathlib.Core.Path.{_≡_, ap}
-use Prim.Native.Nat.{ℕ, suc, _≤_, _<_, zero-le}
-use native.Mathlib.Omega.{arith}
+use mathlib.Core.Path.{ap}
+use Prim.Native.Nat.{ℕ}
 use lib.ListN.{getD}
 use Rattle.exponential.specs.Mantissa.{expTable}
+use Rattle.exponential.proofs.Arms.{last}
 use Rattle.exponential.proofs.exp_tab.Statement.{statement}
 use Rattle.exponential.proofs.exp_tab.Tie as tie
-use Rattle.exponential.proofs.exp_tab.Reads as reads
-use Rattle.exponential.proofs.exp_tab.Lts as lts
 
--- src/lib.rt:9:1
 returns : tie.Need-returns
 returns c = search needs
 
--- src/lib.rt:9:1
 returns-2 : tie.Need-returns-2
 returns-2 c = search needs
 
--- src/lib.rt:9:1
 returns-3 : tie.Need-returns-3
 returns-3 c = search needs
 
--- src/lib.rt:9:1
 returns-4 : tie.Need-returns-4
 returns-4 c = search needs
 
--- src/lib.rt:9:1
 returns-5 : tie.Need-returns-5
 returns-5 c = search needs
 
--- src/lib.rt:9:1
 returns-6 : tie.Need-returns-6
 returns-6 c = search needs
 
--- src/lib.rt:9:1
 returns-7 : tie.Need-returns-7
 returns-7 c = search needs
 
--- src/lib.rt:9:1
 returns-8 : tie.Need-returns-8
 returns-8 c = search needs
 
--- src/lib.rt:9:1
 returns-9 : tie.Need-returns-9
 returns-9 c = search needs
 
--- src/lib.rt:9:1
 returns-10 : tie.Need-returns-10
 returns-10 c = search needs
 
--- src/lib.rt:9:1
 returns-11 : tie.Need-returns-11
 returns-11 c = search needs
 
--- src/lib.rt:9:1
 returns-12 : tie.Need-returns-12
 returns-12 c = search needs
 
--- src/lib.rt:9:1
 returns-13 : tie.Need-returns-13
 returns-13 c = search needs
 
--- src/lib.rt:9:1
 returns-14 : tie.Need-returns-14
 returns-14 c = search needs
 
--- src/lib.rt:9:1
 returns-15 : tie.Need-returns-15
 returns-15 c = search needs
 
--- src/lib.rt:9:1
 returns-16 : tie.Need-returns-16
 returns-16 c = search needs
 
--- src/lib.rt:9:1
 returns-17 : tie.Need-returns-17
 returns-17 c = search needs
 
--- src/lib.rt:9:1
 returns-18 : tie.Need-returns-18
 returns-18 c = search needs
 
--- src/lib.rt:9:1
 returns-19 : tie.Need-returns-19
 returns-19 c = search needs
 
--- src/lib.rt:9:1
 returns-20 : tie.Need-returns-20
 returns-20 c = search needs
 
--- src/lib.rt:9:1
 returns-21 : tie.Need-returns-21
 returns-21 c = search needs
 
--- src/lib.rt:9:1
 returns-22 : tie.Need-returns-22
 returns-22 c = search needs
 
--- src/lib.rt:9:1
-up : (j n : ℕ) → n ≤ j → (j ≡ n → ⊥) → suc n ≤ j
-up j n h f = omega arith
-
-only : (j : ℕ) → 22 ≤ j → j < 23 → 22 ≡ j
-only j h k = omega arith
-
 returns-23 : tie.Need-returns-23
-returns-23 c = ap (λ (j : ℕ). getD expTable j 0) (only _ (up _ 21 (up _ 20 (up _ 19 (up _ 18 (up _ 17 (up _ 16 (up _ 15 (up _ 14 (up _ 13 (up _ 12 (up _ 11 (up _ 10 (up _ 9 (up _ 8 (up _ 7 (up _ 6 (up _ 5 (up _ 4 (up _ 3 (up _ 2 (up _ 1 (up _ 0 zero-le (c .match .rest .0 .0 .0 .0 .0 .0 .0 .0 .0 .0 .0 .0 .0 .0 .0 .0 .0 .0 .0 .0 .0 .1)) (c .match .rest .0 .0 .0 .0 .0 .0 .0 .0 .0 .0 .0 .0 .0 .0 .0 .0 .0 .0 .0 .0 .1)) (c .match .rest .0 .0 .0 .0 .0 .0 .0 .0 .0 .0 .0 .0 .0 .0 .0 .0 .0 .0 .0 .1)) (c .match .rest .0 .0 .0 .0 .0 .0 .0 .0 .0 .0 .0 .0 .0 .0 .0 .0 .0 .0 .1)) (c .match .rest .0 .0 .0 .0 .0 .0 .0 .0 .0 .0 .0 .0 .0 .0 .0 .0 .0 .1)) (c .match .rest .0 .0 .0 .0 .0 .0 .0 .0 .0 .0 .0 .0 .0 .0 .0 .0 .1)) (c .match .rest .0 .0 .0 .0 .0 .0 .0 .0 .0 .0 .0 .0 .0 .0 .0 .1)) (c .match .rest .0 .0 .0 .0 .0 .0 .0 .0 .0 .0 .0 .0 .0 .0 .1)) (c .match .rest .0 .0 .0 .0 .0 .0 .0 .0 .0 .0 .0 .0 .0 .1)) (c .match .rest .0 .0 .0 .0 .0 .0 .0 .0 .0 .0 .0 .0 .1)) (c .match .rest .0 .0 .0 .0 .0 .0 .0 .0 .0 .0 .0 .1)) (c .match .rest .0 .0 .0 .0 .0 .0 .0 .0 .0 .0 .1)) (c .match .rest .0 .0 .0 .0 .0 .0 .0 .0 .0 .1)) (c .match .rest .0 .0 .0 .0 .0 .0 .0 .0 .1)) (c .match .rest .0 .0 .0 .0 .0 .0 .0 .1)) (c .match .rest .0 .0 .0 .0 .0 .0 .1)) (c .match .rest .0 .0 .0 .0 .0 .1)) (c .match .rest .0 .0 .0 .0 .1)) (c .match .rest .0 .0 .0 .1)) (c .match .rest .0 .0 .1)) (c .match .rest .0 .1)) (c .match .rest .1)) (c .before .pre))
+returns-23 c = ap (λ (j : ℕ). getD expTable j 0) (last 22 (c .before .args .j) (c .match .rest) (c .before .pre))
 
 pub exp-tab-spec : {M : Type 1} → statement M
-exp-tab-spec =
-    tie.close
-    (tie.spec
-    returns
-    returns-2
-    returns-3
-    returns-4
-    returns-5
-    returns-6
-    returns-7
-    returns-8
-    returns-9
-    returns-10
-    returns-11
-    returns-12
-    returns-13
-    returns-14
-    returns-15
-    returns-16
-    returns-17
-    returns-18
-    returns-19
-    returns-20
-    returns-21
-    returns-22
-    returns-23)
+exp-tab-spec = tie.close (tie.spec returns returns-2 returns-3 returns-4 returns-5 returns-6 returns-7 returns-8 returns-9 returns-10 returns-11 returns-12 returns-13 returns-14 returns-15 returns-16 returns-17 returns-18 returns-19 returns-20 returns-21 returns-22 returns-23)

@@ -1,7 +1,7 @@
 -- `exponential::fixed` meets its contract. Assumes nothing.
-use mathlib.Core.Path.{_≡_, sym, subst}
+use mathlib.Core.Path.{sym, subst}
 use lib.Dec.{T}
-use lib.Ieee.{binary64, fits, ofBits}
+use lib.Ieee.{ofBits}
 use Rattle.exponential.proofs.Cutting.{limits}
 use Rattle.exponential.proofs.fixed.Statement.{statement}
 use Rattle.exponential.proofs.fixed.Tie as tie

@@ -1,5 +1,5 @@
 -- `square_root::nearest_root` meets its contract. The first loop goes up until N ≤ q * (q + 1), the second comes down until (q - 1) * q < N.
-use mathlib.Core.Path.{_≡_, sym, _∙_}
+use mathlib.Core.Path.{sym, _∙_}
 use mathlib.Core.Logic.{inl, inr}
 use Prim.Native.Nat.{ℕ, _+_, _-_, _*_, _^_, _<_, _≤_}
 use native.Mathlib.Omega.{arith}

@@ -1,9 +1,9 @@
 -- `square_root::sqrt` meets its contract.
 use mathlib.Core.Path.{_≡_, sym, ap, _∙_, subst}
 use mathlib.Core.Bool.{true, false}
-use Prim.Native.Nat.{ℕ, _*_, _^_, _<_}
+use Prim.Native.Nat.{_*_, _^_, _<_}
 use lib.Dec.{T}
-use lib.Ieee.{Float, binary64, fits, ofBits, toBits, lt, inf, div}
+use lib.Ieee.{Float, binary64, ofBits, toBits, lt, inf, div}
 use lib.Ieee.Bits.{ofBits-toBits}
 use Rattle.square_root.specs.SquareRoot.{sqrtOf}
 use Rattle.square_root.proofs.Patterns.{no-nan}

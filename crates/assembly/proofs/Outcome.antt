@@ -1,0 +1,37 @@
+-- The outcomes of an assembly, from what its parts answered.
+use mathlib.Core.Path.{_≡_, refl, sym, ap, _∙_, subst}
+use mathlib.Core.Bool.{Bool, true, false, cond, _&&_}
+use mathlib.Core.List.{List}
+use Prim.Native.Nat.{ℕ, _≤_}
+use lib.ListN.{length}
+use lib.Ieee.{Float}
+use Rattle.pattern.specs.Pattern.{wellFormed}
+use Rattle.device.specs.declared.Terminals.{Terminals}
+use Rattle.stamps.specs.Stamps.{jacPairsOf}
+use Rattle.stamps.specs.declared.ChargeBranches.{ChargeBranches}
+use Rattle.assembly.specs.Assembly.{Pattern, Contribution, Source, addCells, allThere, addSources, matrixContributions, Assembled}
+use Rattle.assembly.specs.Numbers.{missingNumber, numbersOf, addAll, noneMissing, gatePlacesOf, addBranches, branchesThere, anyGate}
+use Rattle.assembly.specs.declared.GatePlaces.{GatePlaces}
+use Rattle.assembly.proofs.Cells.{well-small, all-added, all-found}
+
+module _ (P : Pattern) (cs : List Contribution) (ss : List Source) (values rhs : List Float) where
+  pub refused : allThere P cs ≡ false → Assembled P cs ss values rhs false values rhs
+  refused e = record { answer = sym e; matrix = rw e; side = rw e }
+
+  pub accepted : allThere P cs ≡ true → (values' rhs' : List Float) → values' ≡ addCells P cs values → rhs' ≡ addSources ss rhs
+      → Assembled P cs ss values rhs true values' rhs'
+  accepted e values' rhs' m r = record { answer = sym e; matrix = rw e m; side = rw e r }
+
+-- the places that were looked up
+pub record Looked (P : Pattern) (t : Terminals) (b : ChargeBranches) (places : List ℕ) (gate : GatePlaces) : Type 0 where
+  pub places-are : places ≡ numbersOf P (jacPairsOf t)
+  pub gate-are : gate ≡ gatePlacesOf P t (anyGate b)
+
+module _ (P : Pattern) (t : Terminals) (b : ChargeBranches) (jacobian : List Float) (places : List ℕ) (gate : GatePlaces) (k : Looked P t b places gate) where
+  pub looked-there : wellFormed (P .columns) (P .offsets) (P .lengths) (length (P .columns)) ≡ true → length (P .columns) ≤ missingNumber → length jacobian ≡ 24
+      → allThere P (matrixContributions t jacobian b) ≡ (noneMissing places && branchesThere places gate b)
+  looked-there well room len = rw (k .places-are, k .gate-are) (sym (all-found P t b (well-small P well room) jacobian len))
+
+  pub looked-added : (values : List Float) → length values ≤ missingNumber
+      → addBranches places gate b (addAll values places jacobian) ≡ addCells P (matrixContributions t jacobian b) values
+  looked-added values room = rw (k .places-are, k .gate-are) (all-added P t b jacobian values room)

@@ -1,0 +1,177 @@
+-- How the passes over keys and bytes go on: one element, and the rest.
+use mathlib.Core.Path.{_≡_, refl, sym, ap, ap₂, _∙_}
+use mathlib.Core.Bool.{Bool, true, false, cond, not, _||_}
+use mathlib.Core.List.{List, [], _∷_}
+use Prim.Native.Nat.{ℕ, zero, suc, _+_, _-_, _<_, _≤_}
+use native.Mathlib.Numerals.{add-one}
+use native.Mathlib.Omega.{arith}
+use borrow.Author.Tests.{ltb-false, eqb-true, not-false, lt-ltb, le-ltb}
+use lib.Dec.{leb, ltb, eqb}
+use lib.Ieee.{Float, nan}
+use lib.ListN.{length, take, drop, getD, set, length-drop, drop-of-length-le}
+use lib.Seq.{drop-cons, sets}
+use Rattle.keys.specs.Names.{meaningOf}
+use Rattle.keys.specs.Ranges.{isUnknown}
+use Rattle.keys.specs.declared.Meaning.{Meaning}
+use Rattle.keys.specs.declared.Table.{Table}
+use Rattle.entries.specs.Entries.{Entry, entriesOf, keyAt, Inside, pairsAstray, badPairs, beyondAscii, anyBeyondAscii, unknownFrom, unknownCount, anyOutside, anyTnomOutside, scanOf, scannedWith}
+use Rattle.entries.specs.declared.Scan.{Scan}
+
+neither : (a b : Bool) → (a || b) ≡ false → (a ≡ false) × (b ≡ false)
+neither true true t = (t, t)
+neither true false t = (t, refl)
+neither false b t = (refl, t)
+
+-- ---- the bytes of a key
+
+pub ascii-step : (key : List ℕ) (i : ℕ) → i < length key → beyondAscii (drop i key) ≡ (leb 128 (getD key i 0) || beyondAscii (drop (i + 1) key))
+unfolding beyondAscii
+ascii-step key i h = rw (add-one i) (ap beyondAscii (drop-cons key i 0 h))
+
+-- ---- pairs
+
+pub pairs-step : (size last : ℕ) (os ls : List ℕ) (i : ℕ) → i < length os → i < length ls → pairsAstray size last (drop i os) (drop i ls) ≡ (ltb (getD os i 0) last || (ltb size (getD os i 0 + getD ls i 0) || pairsAstray size (getD os i 0 + getD ls i 0) (drop (i + 1) os) (drop (i + 1) ls)))
+unfolding pairsAstray
+pairs-step size last os ls i h k = rw (add-one i) (ap₂ (pairsAstray size last) (drop-cons os i 0 h) (drop-cons ls i 0 k))
+
+-- o + n is tested against the size without a sum
+pub past-start : (size o n : ℕ) → size < o → ltb size (o + n) ≡ true
+past-start size o n h = lt-ltb size (o + n) (omega arith)
+
+pub past-end : (size o n : ℕ) → o ≤ size → size - o < n → ltb size (o + n) ≡ true
+past-end size o n h k = lt-ltb size (o + n) (omega arith)
+
+pub not-past : (size o n : ℕ) → o ≤ size → n ≤ size - o → ltb size (o + n) ≡ false
+not-past size o n h k = le-ltb size (o + n) (omega arith)
+
+inside : (size last : ℕ) (os ls : List ℕ) → pairsAstray size last os ls ≡ false → (i : ℕ) → i < length os → i < length ls → getD os i 0 + getD ls i 0 ≤ size
+unfolding pairsAstray
+inside size last [] ls e i h k = absurd (omega arith)
+inside size last (o ∷ os) [] e i h k = absurd (omega arith)
+inside size last (o ∷ os) (n ∷ ls) e zero h k =
+    let u = neither (ltb o last) _ e in
+    let w = neither (ltb size (o + n)) _ (u .1) in
+    ltb-false size (o + n) (w .0)
+inside size last (o ∷ os) (n ∷ ls) e (suc i) h k =
+    let u = neither (ltb o last) _ e in
+    let w = neither (ltb size (o + n)) _ (u .1) in
+    inside size (o + n) os ls (w .1) i (omega arith) (omega arith)
+
+-- what row 1 leaves
+pub record Paired (bytes offsets lengths : List ℕ) (values : List Float) : Type 0 where
+  pub as-many : length offsets ≡ length lengths
+  pub as-many-values : length offsets ≡ length values
+  pub within : (i : ℕ) → i < length offsets → Inside bytes offsets lengths i
+
+pub paired : (bytes offsets lengths : List ℕ) (values : List Float) → badPairs bytes offsets lengths values ≡ false → Paired bytes offsets lengths values
+unfolding badPairs
+paired bytes offsets lengths values e =
+    let u = neither (not (eqb (length offsets) (length lengths))) _ e in
+    let w = neither (not (eqb (length offsets) (length values))) _ (u .1) in
+    let same = eqb-true (length offsets) (length lengths) (not-false _ (u .0)) in
+    record {
+      as-many = same;
+      as-many-values = eqb-true (length offsets) (length values) (not-false _ (w .0));
+      within = λ i h. let k : i < length lengths = omega (arith, same) in record { offset = h; size = k; end = inside (length bytes) 0 offsets lengths (w .1) i h k };
+    }
+
+-- ---- entries
+
+-- what is left of the keys from a place on
+abbrev pub rest : List ℕ → List ℕ → List ℕ → List Float → ℕ → List Entry
+rest bytes offsets lengths values i = entriesOf bytes (drop i offsets) (drop i lengths) (drop i values)
+
+module _ (bytes offsets lengths : List ℕ) (values : List Float) where
+  pub entry-step : Paired bytes offsets lengths values → (i : ℕ) → i < length offsets → rest bytes offsets lengths values i ≡ (record { key = keyAt bytes offsets lengths i; value = getD values i nan } ∷ rest bytes offsets lengths values (suc i))
+  unfolding entriesOf
+  entry-step p i h =
+      rw (drop-cons offsets i 0 h, drop-cons lengths i 0 (omega (arith, p .as-many)), drop-cons values i nan (omega (arith, p .as-many-values)))
+
+  pub entry-end : (i : ℕ) → length offsets ≤ i → rest bytes offsets lengths values i ≡ []
+  unfolding entriesOf
+  entry-end i h = rw (drop-of-length-le offsets h)
+
+few : (bytes os ls : List ℕ) (vs : List Float) → length (entriesOf bytes os ls vs) ≤ length os
+unfolding entriesOf
+few bytes [] ls vs = omega arith
+few bytes (o ∷ os) [] vs = omega arith
+few bytes (o ∷ os) (n ∷ ls) [] = omega arith
+few bytes (o ∷ os) (n ∷ ls) (v ∷ vs) = omega (arith, few bytes os ls vs)
+
+counted : (b : Bool) (n m : ℕ) → n ≤ m → cond b (n + 1) n ≤ suc m
+counted true n m h = omega arith
+counted false n m h = omega arith
+
+count-few : (table : Table) (es : List Entry) → unknownCount table es ≤ length es
+unfolding unknownCount
+count-few table [] = omega arith
+count-few table (e ∷ es) = counted (isUnknown (meaningOf table (e .key))) _ _ (count-few table es)
+
+pub count-rest : (table : Table) (bytes os ls : List ℕ) (vs : List Float) (i : ℕ) → unknownCount table (rest bytes os ls vs i) ≤ length os - i
+count-rest table bytes os ls vs i =
+    omega (arith, count-few table (rest bytes os ls vs i), few bytes (drop i os) (drop i ls) (drop i vs), length-drop i os)
+
+-- ---- the scan, from the last key to the first
+
+pub scan-cons : (table : Table) (e : Entry) (es : List Entry) → scannedWith (scanOf table es) (beyondAscii (e .key)) (meaningOf table (e .key)) (e .value) ≡ scanOf table (e ∷ es)
+unfolding anyBeyondAscii unknownCount anyOutside anyTnomOutside
+scan-cons table e es = refl
+
+-- ---- the list of unknown places
+
+pub places-cons : (b : Bool) (list : List ℕ) (k i : ℕ) (ps : List ℕ) → sets (cond b (set list k i) list) (cond b (k + 1) k) ps ≡ sets list k (cond b (i ∷ ps) ps)
+places-cons true list k i ps = ap (λ (n : ℕ). sets (set list k i) n ps) (add-one k)
+places-cons false list k i ps = refl
+
+pub room-left : (b : Bool) (k n m : ℕ) → k + cond b (n + 1) n ≤ m → cond b (k + 1) k + n ≤ m
+room-left true k n m h = omega arith
+room-left false k n m h = omega arith
+
+pub room-here : (b : Bool) (k n m : ℕ) → k + cond b (n + 1) n ≤ m → b ≡ true → k < m
+room-here true k n m h t = omega arith
+room-here false k n m h t = let z : _≡_ {A = ℕ} 0 1 = cc in absurd (omega arith)
+
+-- ---- what a place's pair needs, for the calls that read its key
+
+module _ (bytes offsets lengths : List ℕ) (values : List Float) (table : Table) where
+  -- one key more in front
+  pub scan-step : Paired bytes offsets lengths values → (i j : ℕ) → i < length offsets → j ≡ suc i → (s : Scan) (high : Bool) (m : Meaning) → s ≡ scanOf table (rest bytes offsets lengths values j) → high ≡ beyondAscii (keyAt bytes offsets lengths i) → m ≡ meaningOf table (keyAt bytes offsets lengths i) → scannedWith s high m (getD values i nan) ≡ scanOf table (rest bytes offsets lengths values i)
+  scan-step p i j h e s high m es eh em =
+      let v = getD values i nan in
+      let k = keyAt bytes offsets lengths i in
+      let r = rest bytes offsets lengths values (suc i) in
+      ap (λ (x : Scan). scannedWith x high m v) (es ∙ ap (λ (n : ℕ). scanOf table (rest bytes offsets lengths values n)) e)
+      ∙ ap (λ (x : Bool). scannedWith (scanOf table r) x m v) eh
+      ∙ ap (λ (x : Meaning). scannedWith (scanOf table r) (beyondAscii k) x v) em
+      ∙ scan-cons table (record { key = k; value = v }) r
+      ∙ sym (ap (scanOf table) (entry-step bytes offsets lengths values p i h))
+
+pub length-of-part : (a n : ℕ) → a + n - a ≡ n
+length-of-part a n = omega arith
+
+-- ---- one place more on the list
+
+module _ (bytes offsets lengths : List ℕ) (values : List Float) (table : Table) (p : Paired bytes offsets lengths values) (i : ℕ) (h : i < length offsets) where
+  -- whether the key at i is unknown
+  abbrev unknown-here : Bool
+  unknown-here = isUnknown (meaningOf table (keyAt bytes offsets lengths i))
+
+  count-here : unknownCount table (rest bytes offsets lengths values i) ≡ cond unknown-here (unknownCount table (rest bytes offsets lengths values (suc i)) + 1) (unknownCount table (rest bytes offsets lengths values (suc i)))
+  unfolding unknownCount
+  count-here = ap (unknownCount table) (entry-step bytes offsets lengths values p i h)
+
+  pub room-for-place : (b : Bool) (k m : ℕ) → b ≡ unknown-here → k + unknownCount table (rest bytes offsets lengths values i) ≤ m → b ≡ true → k < m
+  room-for-place b k m e r t =
+      room-here b k (unknownCount table (rest bytes offsets lengths values (suc i))) m (rw e (rw count-here at r)) t
+
+  pub room-after : (b : Bool) (k m : ℕ) → b ≡ unknown-here → k + unknownCount table (rest bytes offsets lengths values i) ≤ m → cond b (k + 1) k + unknownCount table (rest bytes offsets lengths values (i + 1)) ≤ m
+  room-after b k m e r =
+      rw (add-one i) (room-left b k (unknownCount table (rest bytes offsets lengths values (suc i))) m (rw e (rw count-here at r)))
+
+  pub place-step : (b : Bool) (list : List ℕ) (k : ℕ) → b ≡ unknown-here → sets (cond b (set list k i) list) (cond b (k + 1) k) (unknownFrom table (i + 1) (rest bytes offsets lengths values (i + 1))) ≡ sets list k (unknownFrom table i (rest bytes offsets lengths values i))
+  unfolding unknownFrom
+  place-step b list k e =
+      rw (add-one i)
+      (places-cons b list k i (unknownFrom table (suc i) (rest bytes offsets lengths values (suc i)))
+      ∙ ap (λ (x : Bool). sets list k (cond x (i ∷ unknownFrom table (suc i) (rest bytes offsets lengths values (suc i))) (unknownFrom table (suc i) (rest bytes offsets lengths values (suc i))))) e
+      ∙ sym (ap (λ (es : List Entry). sets list k (unknownFrom table i es)) (entry-step bytes offsets lengths values p i h)))

@@ -1,0 +1,85 @@
+-- The keys of a call with their values, and the conditions of rows 1 to 4 and 6 on them.
+use Prim.Native.Nat.{ℕ, suc, _+_, _<_, _≤_}
+use mathlib.Core.Bool.{Bool, true, false, cond, not, _||_}
+use mathlib.Core.List.{List, [], _∷_}
+use lib.Dec.{leb, ltb, eqb}
+use lib.ListN.{length, getD, take, drop}
+use lib.Ieee.{Float}
+use Rattle.keys.specs.Names.{meaningOf}
+use Rattle.keys.specs.Ranges.{outsideOf, tnomOutside, isUnknown}
+use Rattle.keys.specs.declared.Meaning.{Meaning}
+use Rattle.entries.specs.declared.Scan.{Scan}
+use Rattle.keys.specs.declared.Table.{Table}
+
+-- a key's bytes, and its value
+pub record Entry : Type 0 where
+  pub key : List ℕ
+  pub value : Float
+
+-- what pairs of offset and length cut out of the key bytes, each with its value
+unfoldable pub entriesOf : List ℕ → List ℕ → List ℕ → List Float → List Entry
+entriesOf bytes [] lengths values = []
+entriesOf bytes (o ∷ offsets) [] values = []
+entriesOf bytes (o ∷ offsets) (n ∷ lengths) [] = []
+entriesOf bytes (o ∷ offsets) (n ∷ lengths) (v ∷ values) =
+    record { key = take n (drop o bytes); value = v } ∷ entriesOf bytes offsets lengths values
+
+-- the key of the pair at a place
+abbrev pub keyAt : List ℕ → List ℕ → List ℕ → ℕ → List ℕ
+keyAt bytes offsets lengths i = take (getD lengths i 0) (drop (getD offsets i 0) bytes)
+
+-- the pair at a place lies within the key bytes
+pub record Inside (bytes offsets lengths : List ℕ) (i : ℕ) : Type 0 where
+  pub offset : i < length offsets
+  pub size : i < length lengths
+  pub end : getD offsets i 0 + getD lengths i 0 ≤ length bytes
+
+-- row 1: a pair starts before the last one's end, or goes past the key bytes, of which there are size
+unfoldable pub pairsAstray : ℕ → ℕ → List ℕ → List ℕ → Bool
+pairsAstray size last [] lengths = false
+pairsAstray size last (o ∷ offsets) [] = false
+pairsAstray size last (o ∷ offsets) (n ∷ lengths) = ltb o last || (ltb size (o + n) || pairsAstray size (o + n) offsets lengths)
+
+-- row 1: that, or offsets, lengths and values differ in count
+unfoldable pub badPairs : List ℕ → List ℕ → List ℕ → List Float → Bool
+badPairs bytes offsets lengths values =
+    not (eqb (length offsets) (length lengths)) || (not (eqb (length offsets) (length values)) || pairsAstray (length bytes) 0 offsets lengths)
+
+-- row 2: a byte inside a key is 128 or more
+unfoldable pub beyondAscii : List ℕ → Bool
+beyondAscii [] = false
+beyondAscii (b ∷ bs) = leb 128 b || beyondAscii bs
+
+unfoldable pub anyBeyondAscii : List Entry → Bool
+anyBeyondAscii [] = false
+anyBeyondAscii (e ∷ es) = beyondAscii (e .key) || anyBeyondAscii es
+
+-- row 3: the places of the unknown keys, in order, counted from i
+unfoldable pub unknownFrom : Table → ℕ → List Entry → List ℕ
+unknownFrom table i [] = []
+unknownFrom table i (e ∷ es) =
+    cond (isUnknown (meaningOf table (e .key))) (i ∷ unknownFrom table (suc i) es) (unknownFrom table (suc i) es)
+
+unfoldable pub unknownCount : Table → List Entry → ℕ
+unknownCount table [] = 0
+unknownCount table (e ∷ es) = cond (isUnknown (meaningOf table (e .key))) (unknownCount table es + 1) (unknownCount table es)
+
+-- row 4: the value of a key that is known lies outside its range, overridden or not
+unfoldable pub anyOutside : Table → List Entry → Bool
+anyOutside table [] = false
+anyOutside table (e ∷ es) = outsideOf (meaningOf table (e .key)) (e .value) || anyOutside table es
+
+-- row 6: any tnom given lies outside 200 to 500 K
+unfoldable pub anyTnomOutside : Table → List Entry → Bool
+anyTnomOutside table [] = false
+anyTnomOutside table (e ∷ es) = tnomOutside (meaningOf table (e .key)) (e .value) || anyTnomOutside table es
+
+-- the four together, as one pass finds them
+abbrev pub scanOf : Table → List Entry → Scan
+scanOf table es =
+    record { «beyond_ascii» = anyBeyondAscii es; unknown = unknownCount table es; outside = anyOutside table es; «tnom_outside» = anyTnomOutside table es }
+
+-- one key more, in front of those scanned
+abbrev pub scannedWith : Scan → Bool → Meaning → Float → Scan
+scannedWith s high m v =
+    record { «beyond_ascii» = high || s .«beyond_ascii»; unknown = cond (isUnknown m) (s .unknown + 1) (s .unknown); outside = outsideOf m v || s .outside; «tnom_outside» = tnomOutside m v || s .«tnom_outside» }

@@ -1,0 +1,196 @@
+// The keys of a call with their values: rows 1 to 4 and 6 of the refusals, and the places of the unknown keys.
+ghost use mathlib.Core.Path.{_≡_};
+ghost use mathlib.Core.Bool.{true, false, cond, _||_};
+ghost use Prim.Native.Nat.{_+_, _≤_, _<_, _^_};
+ghost use lib.ListN.{length, set};
+ghost use lib.Seq.{sets};
+ghost use Rattle.keys.specs.Names.{meaningOf};
+ghost use Rattle.entries.specs.Entries.{
+  Inside,
+  keyAt,
+  entriesOf,
+  pairsAstray,
+  badPairs,
+  beyondAscii,
+  unknownFrom,
+  unknownCount,
+  scanOf,
+  scannedWith,
+};
+use keys::Meaning;
+use keys::Table;
+
+// What a pass over the keys finds: a byte of 128 or more, the count of unknown keys, a value outside its range, a nominal
+// temperature outside the limits.
+pub struct Scan {
+    pub beyond_ascii: bool,
+    pub unknown: usize,
+    pub outside: bool,
+    pub tnom_outside: bool,
+}
+
+// Whether a byte of a key is 128 or more.
+pub fn beyond_ascii(key: &[u8]) -> bool
+    ensures { λ r. ⌜ r ≡ beyondAscii (now (key .entry)) ⌝ }
+{
+    let mut i = 0;
+    while i < key.len() {
+        if 128 <= key[i] {
+            return true;
+        }
+        i += 1;
+    }
+    false
+}
+
+// Whether a pair starts before the last one's end or goes past the key bytes.
+fn pairs_astray(size: usize, offsets: &[usize], lengths: &[usize]) -> bool
+    requires { ⌜ length (now offsets) ≡ length (now lengths) ⌝ }
+    ensures { λ r. ⌜ r ≡ pairsAstray size 0 (now (offsets .entry)) (now (lengths .entry)) ⌝ }
+{
+    let mut last = 0;
+    let mut i = 0;
+    while i < offsets.len() {
+        let at = offsets[i];
+        let n = lengths[i];
+        if at < last {
+            return true;
+        }
+        if size < at {
+            return true;
+        }
+        if size - at < n {
+            return true;
+        }
+        last = at + n;
+        i += 1;
+    }
+    false
+}
+
+// Row 1.
+pub fn bad_pairs(bytes: &[u8], offsets: &[usize], lengths: &[usize], values: &[f64]) -> bool
+    ensures { λ r. ⌜ r ≡ badPairs (now (bytes .entry)) (now (offsets .entry)) (now (lengths .entry)) (now (values .entry)) ⌝ }
+{
+    if offsets.len() != lengths.len() {
+        return true;
+    }
+    if offsets.len() != values.len() {
+        return true;
+    }
+    pairs_astray(bytes.len(), offsets, lengths)
+}
+
+// What the key at a place means.
+pub fn meaning_at(
+    table: Table,
+    bytes: &[u8],
+    offsets: &[usize],
+    lengths: &[usize],
+    i: usize,
+) -> Meaning
+    requires { ⌜ Inside (now bytes) (now offsets) (now lengths) i ⌝ }
+    ensures { λ r. ⌜ r ≡ meaningOf table (keyAt (now (bytes .entry)) (now (offsets .entry)) (now (lengths .entry)) i) ⌝ }
+{
+    let at = offsets[i];
+    let end = at + lengths[i];
+    keys::meaning_of(table, &bytes[at..end])
+}
+
+// Whether the key at a place has a byte of 128 or more.
+fn beyond_ascii_at(bytes: &[u8], offsets: &[usize], lengths: &[usize], i: usize) -> bool
+    requires { ⌜ Inside (now bytes) (now offsets) (now lengths) i ⌝ }
+    ensures { λ r. ⌜ r ≡ beyondAscii (keyAt (now (bytes .entry)) (now (offsets .entry)) (now (lengths .entry)) i) ⌝ }
+{
+    let at = offsets[i];
+    let end = at + lengths[i];
+    beyond_ascii(&bytes[at..end])
+}
+
+fn either(a: bool, b: bool) -> bool
+    ensures { λ r. ⌜ r ≡ (a || b) ⌝ }
+{
+    if a { true } else { b }
+}
+
+// One more where b holds.
+fn one_more_if(b: bool, n: usize) -> usize
+    requires { ⌜ n + 1 < 2 ^ 64 ⌝ }
+    ensures { λ r. ⌜ r ≡ cond b (n + 1) n ⌝ }
+{
+    if b { n + 1 } else { n }
+}
+
+// One key more, in front of those scanned.
+fn scanned_with(s: Scan, high: bool, m: Meaning, v: f64) -> Scan
+    requires { ⌜ s .unknown + 1 < 2 ^ 64 ⌝ }
+    ensures { λ r. ⌜ r ≡ scannedWith s high m v ⌝ }
+{
+    Scan {
+        beyond_ascii: either(high, s.beyond_ascii),
+        unknown: one_more_if(keys::is_unknown(m), s.unknown),
+        outside: either(keys::outside(m, v), s.outside),
+        tnom_outside: either(keys::tnom_outside(m, v), s.tnom_outside),
+    }
+}
+
+// One pass over the keys, from the last to the first.
+pub fn scan_keys(
+    table: Table,
+    bytes: &[u8],
+    offsets: &[usize],
+    lengths: &[usize],
+    values: &[f64],
+) -> Scan
+    requires { ⌜ badPairs (now bytes) (now offsets) (now lengths) (now values) ≡ false ⌝ }
+    ensures { λ r. ⌜ r ≡ scanOf table (entriesOf (now (bytes .entry)) (now (offsets .entry)) (now (lengths .entry)) (now (values .entry))) ⌝ }
+{
+    let mut s = Scan {
+        beyond_ascii: false,
+        unknown: 0,
+        outside: false,
+        tnom_outside: false,
+    };
+    let mut i = offsets.len();
+    while 0 < i {
+        i -= 1;
+        let high = beyond_ascii_at(bytes, offsets, lengths, i);
+        let m = meaning_at(table, bytes, offsets, lengths, i);
+        s = scanned_with(s, high, m, values[i]);
+    }
+    s
+}
+
+// Writes i at place k of the list where b holds, and gives the next place.
+fn put_if(b: bool, list: &mut [usize], k: usize, i: usize) -> usize
+    requires { ⌜ (b ≡ true → k < length (now list)) ⌝ }
+    ensures { λ r. ⌜ (r ≡ cond b (k + 1) k) × (now (list .exit) ≡ cond b (set (now (list .entry)) k i) (now (list .entry))) ⌝ }
+{
+    if b {
+        list[k] = i;
+        return k + 1;
+    }
+    k
+}
+
+// Writes the places of the unknown keys, in order, to the front of the list.
+pub fn list_unknown(
+    table: Table,
+    bytes: &[u8],
+    offsets: &[usize],
+    lengths: &[usize],
+    values: &[f64],
+    list: &mut [usize],
+)
+    requires { ⌜ (badPairs (now bytes) (now offsets) (now lengths) (now values) ≡ false)
+        × (unknownCount table (entriesOf (now bytes) (now offsets) (now lengths) (now values)) ≤ length (now list)) ⌝ }
+    ensures { λ _. ⌜ now (list .exit) ≡ sets (now (list .entry)) 0 (unknownFrom table 0 (entriesOf (now (bytes .entry)) (now (offsets .entry)) (now (lengths .entry)) (now (values .entry)))) ⌝ }
+{
+    let mut k = 0;
+    let mut i = 0;
+    while i < offsets.len() {
+        let m = meaning_at(table, bytes, offsets, lengths, i);
+        k = put_if(keys::is_unknown(m), list, k, i);
+        i += 1;
+    }
+}

@@ -1,0 +1,3 @@
+pub mod Digits
+pub mod Patterns
+pub mod Writing

@@ -1,0 +1,37 @@
+// The commit of a device where it lies.
+use device::Mosfet1;
+use model::calls::Commit;
+ghost use mathlib.Core.Path.{_≡_};
+ghost use Rattle.model.specs.Calls.{commitOf};
+ghost use Rattle.in_place.specs.InPlace.{rowOf, deviceOf};
+
+// The row that refuses a commit, or 0.
+pub fn refusal(d: Mosfet1, x: &[f64]) -> u8
+    ensures { λ r. ⌜ r ≡ rowOf (commitOf d (now (x .entry))) ⌝ }
+{
+    let stage = d.stage;
+    let terminals = d.terminals;
+    model::rows::commit_row(stage, terminals, x)
+}
+
+// The device after a commit, as it was where the commit is refused.
+pub fn device_after(d: Mosfet1, x: &[f64]) -> Mosfet1
+    ensures { λ r. ⌜ r ≡ deviceOf d (commitOf d (now (x .entry))) ⌝ }
+{
+    match model::calls::commit_timestep(d, x) {
+        Commit::Done(e) => e,
+        Commit::Refused(_) => d,
+    }
+}
+
+// `commit_timestep(&mut self, x)` of the Rust.
+pub fn commit_in_place(d: &mut Mosfet1, x: &[f64]) -> u8
+    ensures { λ r. ⌜ (r ≡ rowOf (commitOf (now (d .entry)) (now (x .entry))))
+        × (now (d .exit) ≡ deviceOf (now (d .entry)) (commitOf (now (d .entry)) (now (x .entry)))) ⌝ }
+{
+    let old = *d;
+    let row = refusal(old, x);
+    let new = device_after(old, x);
+    *d = new;
+    row
+}

@@ -1,0 +1,4 @@
+pub mod Names
+pub mod Packing
+pub mod Picks
+pub mod Ranges

@@ -1,0 +1,17 @@
+pub mod Arms
+pub mod Words
+pub mod Tables
+pub mod Halving
+pub mod Digits
+pub mod Patterns
+pub mod Confirmed
+pub mod Multiples
+pub mod WholeBounds
+pub mod Reflects
+pub mod Enclosure
+pub mod Decoded
+pub mod Enclosed
+pub mod RoundedLog
+pub mod Accuracy
+pub mod Sizes
+pub mod SpecialCases

@@ -1,0 +1,3 @@
+pub mod FixedPoint
+pub mod Logarithm
+pub mod Accuracy

@@ -1,0 +1,48 @@
+// Evaluation and commit (`eval` and `commit_timestep` of mosfet1.rs).
+use device::Mosfet1;
+use mosfet1::steps::Conditions;
+use mosfet1::steps::Evaluated;
+ghost use mathlib.Core.Path.{_≡_};
+ghost use Rattle.model.specs.Calls.{evalOf, commitOf};
+
+// The device after the evaluation with what it answers, or the row that refuses it.
+pub enum Evaluation {
+    Done(Evaluated),
+    Refused(u8),
+}
+
+// The device after the commit, or the row that refuses it.
+pub enum Commit {
+    Done(Mosfet1),
+    Refused(u8),
+}
+
+pub fn eval(d: Mosfet1, x: &[f64], transient: bool, k: Conditions) -> Evaluation
+    ensures { λ r. ⌜ r ≡ evalOf d (now (x .entry)) transient k ⌝ }
+{
+    let stage = d.stage;
+    let terminals = d.terminals;
+    let kelvin = k.temperature;
+    let method = k.method;
+    let row = crate::rows::eval_row(stage, terminals, x, kelvin.0, k.gmin, method);
+    if row != 0 {
+        return Evaluation::Refused(row);
+    }
+    let v = crate::rows::voltages(x, terminals);
+    let e = mosfet1::steps::evaluate(d, v, transient, k);
+    Evaluation::Done(e)
+}
+
+pub fn commit_timestep(d: Mosfet1, x: &[f64]) -> Commit
+    ensures { λ r. ⌜ r ≡ commitOf d (now (x .entry)) ⌝ }
+{
+    let stage = d.stage;
+    let terminals = d.terminals;
+    let row = crate::rows::commit_row(stage, terminals, x);
+    if row != 0 {
+        return Commit::Refused(row);
+    }
+    let v = crate::rows::voltages(x, terminals);
+    let e = mosfet1::steps::committed(d, v);
+    Commit::Done(e)
+}

@@ -1,0 +1,3 @@
+pub mod Bias
+pub mod Charges
+pub mod Steps

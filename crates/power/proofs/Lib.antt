@@ -1,0 +1,7 @@
+pub mod Exponents
+pub mod Products
+pub mod Cores
+pub mod Signs
+pub mod Accuracy
+pub mod SpecialCases
+pub mod Sizes

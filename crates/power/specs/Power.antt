@@ -1,0 +1,57 @@
+-- pow on f64, as the code computes it: by the base's logarithm, which can be kept for several exponents.
+use Prim.Native.Nat.{ℕ, _*_, _^_}
+use mathlib.Core.Bool.{Bool, true, false, not, cond}
+use lib.Dec.{ltb}
+use lib.Ieee.{Float, nan, inf, binary64, ofBits, neg}
+use Rattle.exact.specs.Float64.{_⊘_, _<f_, _=f_, +0, +1}
+use Rattle.exponential.specs.Mantissa.{hi}
+use Rattle.exponential.specs.Exponential.{expFixed, fixedOf}
+use Rattle.logarithm.specs.declared.Log.{Log}
+use Rattle.logarithm.specs.declared.Log.the-variants.{Undefined, BaseZero, BaseOne, Above, Below}
+use Rattle.logarithm.specs.Logarithm.{logOf}
+
+-- 4 and -4
+abbrev pub four : Float
+four = ofBits binary64 0x4010_0000_0000_0000
+
+abbrev pub minusFour : Float
+minusFour = neg four
+
+-- e^(t / 2^50), or its reciprocal; beyond 700 infinity, or zero
+unfoldable pub powerOf : ℕ → Bool → Float
+unfolding expFixed
+powerOf t down =
+    cond (ltb (700 * 2 ^ 50) t) (cond down +0 (inf false))
+    (cond down (+1 ⊘ expFixed (8 * t)) (expFixed (8 * t)))
+
+-- p * v in units of 2^-50, for p up to 4 and v in units of 2^-53: the whole part of p * 2^53 first
+unfoldable pub productOf : Float → ℕ → ℕ
+productOf p v = hi (fixedOf p * 256) v
+
+-- the power of a base whose logarithm has the size v, and is negative where the base is below 1
+unfoldable pub raisedOf : ℕ → Bool → Float → Float
+unfolding powerOf productOf
+raisedOf v below p =
+    cond (four <f p) nan
+    (cond (p <f minusFour) nan
+    (cond (+0 <f p) (powerOf (productOf p v) below)
+    (cond (p <f +0) (powerOf (productOf (neg p) v) (not below)) nan)))
+
+-- 0 to a positive power is 0, an infinite one too
+abbrev pub zeroTo : Float → Float
+zeroTo p = cond (+0 <f p) +0 nan
+
+abbrev pub nonzeroPower : Log → Float → Float
+nonzeroPower Undefined p = nan
+nonzeroPower BaseZero p = zeroTo p
+nonzeroPower BaseOne p = +1
+nonzeroPower (Above v) p = raisedOf v false p
+nonzeroPower (Below v) p = raisedOf v true p
+
+-- the exponent 0 gives 1, whatever the base
+unfoldable pub powFrom : Log → Float → Float
+powFrom l p = cond (p =f +0) +1 (nonzeroPower l p)
+
+unfoldable pub powOf : Float → Float → Float
+unfolding powFrom
+powOf b p = powFrom (logOf b) p

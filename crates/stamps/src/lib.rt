@@ -1,0 +1,276 @@
+// What a load adds: the 24 Jacobian values and their positions, the right-hand side's three values, the five charge branches
+// (`jac_pairs`, `load_jacobian`, `load_residual`, `load_jacobian_tran`, `load_residual_tran` of mosfet1.rs).
+use device::ChargeHistory;
+use device::Discretisation;
+use device::Mosfet1;
+use device::NodeId;
+use device::Terminals;
+ghost use mathlib.Core.Path.{_≡_};
+ghost use Rattle.stamps.specs.Stamps.{jacPairsOf, seriesOf, jacValuesOf, residualOf, branchOf, hasJunctionOf, junctionBranchOf, chargeBranchesOf};
+
+// A matrix position by the nodes of its row and column.
+pub struct Position {
+    pub row: NodeId,
+    pub col: NodeId,
+}
+
+// The right-hand side's values: the channel's and the two junctions' Norton currents.
+pub struct Residual {
+    pub jeq: f64,
+    pub ibs_eq: f64,
+    pub ibd_eq: f64,
+}
+
+// A charge branch: its nodes, its conductance, loaded where the evaluated capacitance is not zero, and its history current.
+pub struct ChargeBranch {
+    pub pos: NodeId,
+    pub neg: NodeId,
+    pub conducts: bool,
+    pub conductance: f64,
+    pub remembers: bool,
+    pub history: f64,
+}
+
+pub struct ChargeBranches {
+    pub gs: ChargeBranch,
+    pub gd: ChargeBranch,
+    pub gb: ChargeBranch,
+    pub bs: ChargeBranch,
+    pub bd: ChargeBranch,
+}
+
+pub fn jac_pairs(t: Terminals) -> [Position; 24]
+    ensures { λ r. ⌜ r ≡ jacPairsOf t ⌝ }
+{
+    let d = t.drain;
+    let g = t.gate;
+    let s = t.source;
+    let bk = t.bulk;
+    let d_ext = t.drain_ext;
+    let s_ext = t.source_ext;
+    [
+        Position { row: d, col: g },
+        Position { row: d, col: d },
+        Position { row: d, col: s },
+        Position { row: d, col: bk },
+        Position { row: s, col: g },
+        Position { row: s, col: d },
+        Position { row: s, col: s },
+        Position { row: s, col: bk },
+        Position {
+            row: d_ext,
+            col: d_ext,
+        },
+        Position { row: d_ext, col: d },
+        Position { row: d, col: d_ext },
+        Position { row: d, col: d },
+        Position {
+            row: s_ext,
+            col: s_ext,
+        },
+        Position { row: s_ext, col: s },
+        Position { row: s, col: s_ext },
+        Position { row: s, col: s },
+        Position { row: bk, col: bk },
+        Position { row: bk, col: s },
+        Position { row: s, col: bk },
+        Position { row: s, col: s },
+        Position { row: bk, col: bk },
+        Position { row: bk, col: d },
+        Position { row: d, col: bk },
+        Position { row: d, col: d },
+    ]
+}
+
+// A series resistance's conductance, 0 where there is none.
+pub fn series(r: f64) -> f64
+    ensures { λ g. ⌜ g ≡ seriesOf r ⌝ }
+{
+    if r > 0.0 {
+        return 1.0 / r;
+    }
+    0.0
+}
+
+pub fn jac_values(d: Mosfet1) -> [f64; 24]
+    ensures { λ r. ⌜ r ≡ jacValuesOf d ⌝ }
+{
+    let geometry = d.geometry;
+    let point = d.point;
+    let gm = point.gm;
+    let gds = point.gds;
+    let gmbs = point.gmbs;
+    let gms = gm + gds + gmbs;
+    let g_d = series(geometry.rd);
+    let g_s = series(geometry.rs);
+    let gbs = point.gbs;
+    let gbd = point.gbd;
+    [
+        gm,
+        gds,
+        -gms,
+        gmbs,
+        -gm,
+        -gds,
+        gms,
+        -gmbs,
+        g_d,
+        -g_d,
+        -g_d,
+        g_d,
+        g_s,
+        -g_s,
+        -g_s,
+        g_s,
+        gbs,
+        -gbs,
+        -gbs,
+        gbs,
+        gbd,
+        -gbd,
+        -gbd,
+        gbd,
+    ]
+}
+
+pub fn residual_values(d: Mosfet1) -> Residual
+    ensures { λ r. ⌜ r ≡ residualOf d ⌝ }
+{
+    let point = d.point;
+    Residual {
+        jeq: point.jeq,
+        ibs_eq: point.ibs_eq,
+        ibd_eq: point.ibd_eq,
+    }
+}
+
+pub fn branch(
+    pos: NodeId,
+    neg: NodeId,
+    c: f64,
+    cv: f64,
+    q: f64,
+    remembers: bool,
+    disc: Discretisation,
+    alpha: f64,
+    hist: ChargeHistory,
+) -> ChargeBranch
+    ensures { λ r. ⌜ r ≡ branchOf pos neg c cv q remembers disc alpha hist ⌝ }
+{
+    let factor = level1::reactive::scale(disc, alpha);
+    let history = level1::reactive::companion(disc, alpha, q, cv, hist);
+    ChargeBranch {
+        pos,
+        neg,
+        conducts: c != 0.0,
+        conductance: factor * c,
+        remembers,
+        history,
+    }
+}
+
+// A junction with neither a bottom nor a sidewall capacitance has no history current.
+pub fn has_junction(bot: f64, sw: f64) -> bool
+    ensures { λ r. ⌜ r ≡ hasJunctionOf bot sw ⌝ }
+{
+    if bot != 0.0 {
+        return true;
+    }
+    sw != 0.0
+}
+
+// The bulk-source or bulk-drain branch: the Jacobian's term at its voltage v is c·v, not its charge.
+pub fn junction_branch(
+    pos: NodeId,
+    neg: NodeId,
+    c: f64,
+    v: f64,
+    q: f64,
+    bot: f64,
+    sw: f64,
+    disc: Discretisation,
+    alpha: f64,
+    hist: ChargeHistory,
+) -> ChargeBranch
+    ensures { λ r. ⌜ r ≡ junctionBranchOf pos neg c v q bot sw disc alpha hist ⌝ }
+{
+    let remembers = has_junction(bot, sw);
+    branch(pos, neg, c, c * v, q, remembers, disc, alpha, hist)
+}
+
+pub fn charge_branches(d: Mosfet1, alpha: f64) -> ChargeBranches
+    ensures { λ r. ⌜ r ≡ chargeBranchesOf d alpha ⌝ }
+{
+    let t = d.terminals;
+    let g = d.geometry;
+    let q = d.charges;
+    let h = d.histories;
+    let disc = d.disc;
+    let gate = t.gate;
+    let source = t.source;
+    let drain = t.drain;
+    let bulk = t.bulk;
+    let gs_hist = h.gs_hist;
+    let gd_hist = h.gd_hist;
+    let gb_hist = h.gb_hist;
+    let bs_hist = h.bs_hist;
+    let bd_hist = h.bd_hist;
+    let gs = branch(
+        gate,
+        source,
+        q.cgs_eval,
+        q.q_gs_eval,
+        q.q_gs_eval,
+        true,
+        disc,
+        alpha,
+        gs_hist,
+    );
+    let gd = branch(
+        gate,
+        drain,
+        q.cgd_eval,
+        q.q_gd_eval,
+        q.q_gd_eval,
+        true,
+        disc,
+        alpha,
+        gd_hist,
+    );
+    let gb = branch(
+        gate,
+        bulk,
+        q.cgb_eval,
+        q.q_gb_eval,
+        q.q_gb_eval,
+        true,
+        disc,
+        alpha,
+        gb_hist,
+    );
+    let bs = junction_branch(
+        bulk,
+        source,
+        q.cbs_eval,
+        q.vbs_eval,
+        q.q_bs_eval,
+        g.cbs_bot,
+        g.cbs_sw,
+        disc,
+        alpha,
+        bs_hist,
+    );
+    let bd = junction_branch(
+        bulk,
+        drain,
+        q.cbd_eval,
+        q.vbd_eval,
+        q.q_bd_eval,
+        g.cbd_bot,
+        g.cbd_sw,
+        disc,
+        alpha,
+        bd_hist,
+    );
+    ChargeBranches { gs, gd, gb, bs, bd }
+}

@@ -1,0 +1,10 @@
+pub mod Intervals
+pub mod Elementary
+pub mod Held
+pub mod Bandgap
+pub mod Potentials
+pub mod Factors
+pub mod Multiples
+pub mod CapFactor
+pub mod Threshold
+pub mod Sizes

@@ -1,0 +1,1 @@
+// The sizes and signs of what the temperature functions give: laws only, no function.
