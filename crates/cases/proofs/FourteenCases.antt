@@ -9,15 +9,15 @@ use Rattle.elementary.specs.Functions.{sqrtOf, expOf}
 use Rattle.device.specs.declared.Mosfet1.{Mosfet1}
 use Rattle.device.specs.declared.Given.the-variants.{Absent, Value}
 use Rattle.device.specs.declared.Discretisation.the-variants.{Euler, Trapezoid, Gear}
-use Rattle.level1.specs.Constants.{two, tenth}
-use Rattle.level1.specs.Limiter.{limitedVdsOf}
-use Rattle.level1.specs.Threshold.{bodyPotentialOf, thresholdOf, bodySlopeOf}
-use Rattle.level1.specs.Channel.{regionOf, shichmanHodgesOf, inRegionOf, cutoffOf, triodeOf, saturationOf, modulationOf, triodeChargeOf, bodyTransconductanceOf}
-use Rattle.level1.specs.Charge.{chargeCurrentOf, eulerOf, trapezoidOf, gearOf, gearAtOf, gearOrEulerOf}
-use Rattle.level1.specs.Junction.{bulkJunctionOf, shockleyOf}
-use Rattle.mosfet1.specs.Bias.{keptOf, channelAnswerOf, answerFromOf, evaluatedChannelOf, evaluatedVthOf, evaluatedBodyOf}
+use Rattle.float.specs.Constants.{two, tenth}
+use Rattle.threshold.specs.Limiter.{limitedVdsOf}
+use Rattle.threshold.specs.Threshold.{bodyPotentialOf, thresholdOf, bodySlopeOf}
+use Rattle.channel.specs.Channel.{regionOf, shichmanHodgesOf, inRegionOf, cutoffOf, triodeOf, saturationOf, modulationOf, triodeChargeOf, bodyTransconductanceOf}
+use Rattle.reactive.specs.Charge.{chargeCurrentOf, eulerOf, trapezoidOf, gearOf, gearAtOf, gearOrEulerOf}
+use Rattle.junction.specs.Junction.{bulkJunctionOf, shockleyOf}
+use Rattle.bias.specs.Bias.{keptOf, channelAnswerOf, answerFromOf, evaluatedChannelOf, evaluatedVthOf, evaluatedBodyOf}
 use Rattle.mosfet1.specs.Steps.{evaluatedAnswerOf}
-use Rattle.mosfet1.specs.declared.bias.Answer.{Answer}
+use Rattle.bias.specs.declared.Answer.{Answer}
 use Rattle.cases.specs.FourteenCases.{num, sixTenths, With, Plain, Modulated, WithBody, PlainPmos, at, Conducts, Shows, ShowsBody, past, FourteenCases}
 
 -- √9 = 3, √4 = 2, √0.6 rounded, exp 0 = 1

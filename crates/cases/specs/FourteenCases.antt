@@ -9,15 +9,15 @@ use Rattle.device.specs.declared.ChargeHistory.{ChargeHistory}
 use Rattle.device.specs.declared.Given.{Given}
 use Rattle.device.specs.declared.Given.the-variants.{Absent, Value}
 use Rattle.device.specs.declared.Discretisation.the-variants.{Euler, Trapezoid, Gear}
-use Rattle.level1.specs.Constants.{tenth}
-use Rattle.level1.specs.Channel.{regionOf}
-use Rattle.level1.specs.Charge.{chargeCurrentOf}
-use Rattle.level1.specs.Junction.{bulkJunctionOf}
-use Rattle.level1.specs.declared.channel.Region.the-variants.{Saturation}
-use Rattle.level1.specs.declared.junction.Junction.{Junction}
+use Rattle.float.specs.Constants.{tenth}
+use Rattle.channel.specs.Channel.{regionOf}
+use Rattle.reactive.specs.Charge.{chargeCurrentOf}
+use Rattle.junction.specs.Junction.{bulkJunctionOf}
+use Rattle.channel.specs.declared.Region.the-variants.{Saturation}
+use Rattle.junction.specs.declared.Junction.{Junction}
 use Rattle.mosfet1.specs.Steps.{evaluatedAnswerOf}
-use Rattle.mosfet1.specs.declared.bias.Voltages.{Voltages}
-use Rattle.mosfet1.specs.declared.bias.Answer.{Answer}
+use Rattle.bias.specs.declared.Voltages.{Voltages}
+use Rattle.bias.specs.declared.Answer.{Answer}
 
 -- n / d, rounded
 abbrev pub num : ℕ → ℕ → Float

@@ -11,7 +11,7 @@ pub fn refusal(d: Mosfet1, x: &[f64]) -> u8
 {
     let stage = d.stage;
     let terminals = d.terminals;
-    model::rows::commit_row(stage, terminals, x)
+    rows::commit_row(stage, terminals, x)
 }
 
 // The device after a commit, as it was where the commit is refused.

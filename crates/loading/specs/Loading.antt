@@ -15,7 +15,7 @@ use Rattle.device.specs.declared.Stage.the-variants.{Card, Geometry, Scaled, Bo
 use Rattle.device.specs.declared.Discretisation.{Discretisation}
 use Rattle.device.specs.declared.Terminals.{Terminals}
 use Rattle.device.specs.declared.Mosfet1.{Mosfet1}
-use Rattle.level1.specs.Charge.{hasStepOf}
+use Rattle.reactive.specs.Charge.{hasStepOf}
 use Rattle.stamps.specs.Stamps.{jacValuesOf, residualOf, chargeBranchesOf}
 use Rattle.stamps.specs.declared.ChargeBranch.{ChargeBranch}
 use Rattle.stamps.specs.declared.ChargeBranches.{ChargeBranches}

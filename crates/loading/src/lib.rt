@@ -115,7 +115,7 @@ fn alpha_outside(disc: Discretisation, kind: LoadKind) -> bool
     match kind {
         LoadKind::DirectCurrent => false,
         LoadKind::Transient(alpha) => {
-            if level1::reactive::has_step(disc) {
+            if reactive::has_step(disc) {
                 return false;
             }
             !alpha_inside(alpha)

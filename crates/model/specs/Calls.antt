@@ -8,7 +8,7 @@ use Rattle.device.specs.declared.Mosfet1.{Mosfet1}
 use Rattle.mosfet1.specs.Steps.{evaluatedOf, committedOf}
 use Rattle.mosfet1.specs.declared.steps.Conditions.{Conditions}
 use Rattle.mosfet1.specs.declared.steps.Evaluated.{Evaluated}
-use Rattle.model.specs.Rows.{voltagesOf, evalRowOf, commitRowOf}
+use Rattle.rows.specs.Rows.{voltagesOf, evalRowOf, commitRowOf}
 use Rattle.model.specs.declared.calls.Evaluation.{Evaluation}
 use Rattle.model.specs.declared.calls.Evaluation.the-variants as Evaluation
 use Rattle.model.specs.declared.calls.Commit.{Commit}

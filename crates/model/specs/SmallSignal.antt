@@ -9,8 +9,8 @@ use Rattle.device.specs.declared.NodeId.{NodeId}
 use Rattle.device.specs.declared.Terminals.{Terminals}
 use Rattle.device.specs.declared.Charges.{Charges}
 use Rattle.device.specs.declared.Mosfet1.{Mosfet1}
-use Rattle.level1.specs.Noise.{thermalNoiseOf, flickerNoiseOf}
-use Rattle.model.specs.Rows.{unevaluatedOf, noiseRowOf}
+use Rattle.noise.specs.Noise.{thermalNoiseOf, flickerNoiseOf}
+use Rattle.rows.specs.Rows.{unevaluatedOf, noiseRowOf}
 use Rattle.model.specs.declared.small_signal.Noise.{Noise}
 use Rattle.model.specs.declared.small_signal.Noise.the-variants as Noise
 use Rattle.model.specs.declared.small_signal.Reactance.{Reactance}

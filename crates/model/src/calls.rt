@@ -24,11 +24,11 @@ pub fn eval(d: Mosfet1, x: &[f64], transient: bool, k: Conditions) -> Evaluation
     let terminals = d.terminals;
     let kelvin = k.temperature;
     let method = k.method;
-    let row = crate::rows::eval_row(stage, terminals, x, kelvin.0, k.gmin, method);
+    let row = rows::eval_row(stage, terminals, x, kelvin.0, k.gmin, method);
     if row != 0 {
         return Evaluation::Refused(row);
     }
-    let v = crate::rows::voltages(x, terminals);
+    let v = rows::voltages(x, terminals);
     let e = mosfet1::steps::evaluate(d, v, transient, k);
     Evaluation::Done(e)
 }
@@ -38,11 +38,11 @@ pub fn commit_timestep(d: Mosfet1, x: &[f64]) -> Commit
 {
     let stage = d.stage;
     let terminals = d.terminals;
-    let row = crate::rows::commit_row(stage, terminals, x);
+    let row = rows::commit_row(stage, terminals, x);
     if row != 0 {
         return Commit::Refused(row);
     }
-    let v = crate::rows::voltages(x, terminals);
+    let v = rows::voltages(x, terminals);
     let e = mosfet1::steps::committed(d, v);
     Commit::Done(e)
 }

@@ -34,15 +34,15 @@ pub enum Reactances {
 }
 
 // Thermal and flicker noise are not correlated, so the densities add up.
-pub fn density(d: Mosfet1, temperature: Kelvin, freq: f64) -> f64
+fn density(d: Mosfet1, temperature: Kelvin, freq: f64) -> f64
     ensures { λ r. ⌜ r ≡ densityOf d temperature freq ⌝ }
 {
     let card = d.card;
     let geometry = d.geometry;
     let point = d.point;
-    let thermal = level1::noise::thermal_noise(point.gm, temperature.0);
+    let thermal = noise::thermal_noise(point.gm, temperature.0);
     let norm = geometry.w * geometry.l * card.cox;
-    let flicker = level1::noise::flicker_noise(card.kf, card.af, point.ids_eval, freq, norm);
+    let flicker = noise::flicker_noise(card.kf, card.af, point.ids_eval, freq, norm);
     thermal + flicker
 }
 
@@ -50,7 +50,7 @@ pub fn noise_sources(d: Mosfet1, temperature: Kelvin, freq: f64) -> Noise
     ensures { λ r. ⌜ r ≡ noiseOf d temperature freq ⌝ }
 {
     let stage = d.stage;
-    let row = crate::rows::noise_row(stage, temperature.0);
+    let row = rows::noise_row(stage, temperature.0);
     if row != 0 {
         return Noise::Refused(row);
     }
@@ -64,7 +64,7 @@ pub fn noise_sources(d: Mosfet1, temperature: Kelvin, freq: f64) -> Noise
     Noise::Source(drain, source, s)
 }
 
-pub fn reactance_of(pos: NodeId, neg: NodeId, c: f64) -> Reactance
+fn reactance_of(pos: NodeId, neg: NodeId, c: f64) -> Reactance
     ensures { λ r. ⌜ r ≡ reactanceOf pos neg c ⌝ }
 {
     if c != 0.0 {
@@ -73,7 +73,7 @@ pub fn reactance_of(pos: NodeId, neg: NodeId, c: f64) -> Reactance
     Reactance::Absent
 }
 
-pub fn reactances_at(t: Terminals, q: Charges) -> FiveReactances
+fn reactances_at(t: Terminals, q: Charges) -> FiveReactances
     ensures { λ r. ⌜ r ≡ fiveOf t q ⌝ }
 {
     let drain = t.drain;
@@ -92,7 +92,7 @@ pub fn small_signal_reactances(d: Mosfet1) -> Reactances
     ensures { λ r. ⌜ r ≡ reactancesOf d ⌝ }
 {
     let stage = d.stage;
-    if crate::rows::unevaluated(stage) {
+    if rows::unevaluated(stage) {
         return Reactances::Refused(10);
     }
     let t = d.terminals;

@@ -10,14 +10,14 @@ use Rattle.device.specs.declared.Histories.{Histories}
 use Rattle.device.specs.declared.Mosfet1.{Mosfet1}
 use Rattle.device.specs.declared.OperatingPoint.{OperatingPoint}
 use Rattle.device.specs.declared.Stage.the-variants as Stage
-use Rattle.level1.specs.Charge.{advanceOf}
-use Rattle.level1.specs.Depletion.{qDeplOf}
-use Rattle.level1.specs.Junction.{thermalVoltageOf}
-use Rattle.level1.specs.declared.capacitance.Grading.{Grading}
-use Rattle.mosfet1.specs.Bias.{keptOf, channelAnswerOf, junctionStampOf, operatingPointOf}
-use Rattle.mosfet1.specs.Charges.{gradingOf, gateSharesOf, chargesOf}
-use Rattle.mosfet1.specs.declared.bias.Voltages.{Voltages}
-use Rattle.mosfet1.specs.declared.bias.Answer.{Answer}
+use Rattle.reactive.specs.Charge.{advanceOf}
+use Rattle.capacitance.specs.Depletion.{qDeplOf}
+use Rattle.junction.specs.Junction.{thermalVoltageOf}
+use Rattle.capacitance.specs.declared.Grading.{Grading}
+use Rattle.bias.specs.Bias.{keptOf, channelAnswerOf, junctionStampOf, operatingPointOf}
+use Rattle.charges.specs.Charges.{gradingOf, gateSharesOf, chargesOf}
+use Rattle.bias.specs.declared.Voltages.{Voltages}
+use Rattle.bias.specs.declared.Answer.{Answer}
 use Rattle.mosfet1.specs.declared.steps.Conditions.{Conditions}
 use Rattle.mosfet1.specs.declared.steps.Evaluated.{Evaluated}
 

@@ -1,6 +1,7 @@
 // The device after an accepted evaluation and after an accepted commit.
-use crate::bias::Answer;
-use crate::bias::Voltages;
+use bias::Answer;
+use bias::Voltages;
+use capacitance::Grading;
 use device::Charges;
 use device::Discretisation;
 use device::Geometry;
@@ -8,7 +9,6 @@ use device::Histories;
 use device::Mosfet1;
 use device::OperatingPoint;
 use device::Stage;
-use level1::capacitance::Grading;
 use temperature::Kelvin;
 ghost use mathlib.Core.Path.{_≡_};
 ghost use Rattle.mosfet1.specs.Steps.{evaluatedAnswerOf, evaluatedPointOf, evaluatedChargesOf, evaluatedOf, committedHistoriesOf, committedPointOf, committedOf};
@@ -27,7 +27,7 @@ pub struct Evaluated {
     pub answer: Answer,
 }
 
-pub fn evaluated_answer(d: Mosfet1, v: Voltages, gmin: f64, limiter: bool) -> Answer
+fn evaluated_answer(d: Mosfet1, v: Voltages, gmin: f64, limiter: bool) -> Answer
     ensures { λ r. ⌜ r ≡ evaluatedAnswerOf d v gmin limiter ⌝ }
 {
     let card = d.card;
@@ -35,7 +35,7 @@ pub fn evaluated_answer(d: Mosfet1, v: Voltages, gmin: f64, limiter: bool) -> An
     let scaled = d.scaled;
     let point = d.point;
     let pol = card.polarity;
-    let kept = crate::bias::keep(
+    let kept = bias::keep(
         pol,
         pol * scaled.vto_t,
         v,
@@ -43,10 +43,10 @@ pub fn evaluated_answer(d: Mosfet1, v: Voltages, gmin: f64, limiter: bool) -> An
         point.vgs_eff_prev,
         point.vds_eff_prev,
     );
-    crate::bias::channel_answer(card, geometry, scaled, v, kept, gmin)
+    bias::channel_answer(card, geometry, scaled, v, kept, gmin)
 }
 
-pub fn evaluated_point(
+fn evaluated_point(
     d: Mosfet1,
     v: Voltages,
     temperature: Kelvin,
@@ -60,23 +60,23 @@ pub fn evaluated_point(
     let pol = d.card.polarity;
     let vb = v.vb;
     let vbs = vb - v.vs;
-    let vt = level1::junction::vt(temperature.0);
-    let bs = crate::bias::junction_stamp(geometry.isat_bs * factor, pol, vbs, vt, gmin);
-    let bd = crate::bias::junction_stamp(geometry.isat_bd * factor, pol, vb - v.vd, vt, gmin);
-    crate::bias::operating_point(pol, a, vbs, bs, bd)
+    let vt = junction::vt(temperature.0);
+    let bs = bias::junction_stamp(geometry.isat_bs * factor, pol, vbs, vt, gmin);
+    let bd = bias::junction_stamp(geometry.isat_bd * factor, pol, vb - v.vd, vt, gmin);
+    bias::operating_point(pol, a, vbs, bs, bd)
 }
 
 // Without the transient flag the last transient evaluation's values stay.
-pub fn evaluated_charges(d: Mosfet1, v: Voltages, transient: bool, a: Answer) -> Charges
+fn evaluated_charges(d: Mosfet1, v: Voltages, transient: bool, a: Answer) -> Charges
     ensures { λ r. ⌜ r ≡ evaluatedChargesOf d v transient a ⌝ }
 {
     if transient {
         let card = d.card;
         let geometry = d.geometry;
         let scaled = d.scaled;
-        let shares = crate::charges::gate_shares(a.vgs, a.vds, a.vth, geometry.cox_wl);
-        let grading = crate::charges::grading(card, scaled);
-        return crate::charges::charges_at(geometry, shares, grading, v);
+        let shares = charges::gate_shares(a.vgs, a.vds, a.vth, geometry.cox_wl);
+        let grading = charges::grading(card, scaled);
+        return charges::charges_at(geometry, shares, grading, v);
     }
     d.charges
 }
@@ -110,7 +110,7 @@ pub fn evaluate(d: Mosfet1, v: Voltages, transient: bool, k: Conditions) -> Eval
 }
 
 // The gate's charges by the evaluated capacitances, the junctions' by the scaling in force.
-pub fn committed_histories(
+fn committed_histories(
     h: Histories,
     disc: Discretisation,
     c: Charges,
@@ -129,13 +129,13 @@ pub fn committed_histories(
     let gb = h.gb_hist;
     let bs = h.bs_hist;
     let bd = h.bd_hist;
-    let q_bs = level1::capacitance::q_depl(grading, geometry.cbs_bot, geometry.cbs_sw, vb - vs);
-    let q_bd = level1::capacitance::q_depl(grading, geometry.cbd_bot, geometry.cbd_sw, vb - vd);
-    let gs_hist = level1::reactive::advance(disc, c.cgs_eval * (vg - vs), gs);
-    let gd_hist = level1::reactive::advance(disc, c.cgd_eval * (vg - vd), gd);
-    let gb_hist = level1::reactive::advance(disc, c.cgb_eval * (vg - vb), gb);
-    let bs_hist = level1::reactive::advance(disc, q_bs, bs);
-    let bd_hist = level1::reactive::advance(disc, q_bd, bd);
+    let q_bs = capacitance::q_depl(grading, geometry.cbs_bot, geometry.cbs_sw, vb - vs);
+    let q_bd = capacitance::q_depl(grading, geometry.cbd_bot, geometry.cbd_sw, vb - vd);
+    let gs_hist = reactive::advance(disc, c.cgs_eval * (vg - vs), gs);
+    let gd_hist = reactive::advance(disc, c.cgd_eval * (vg - vd), gd);
+    let gb_hist = reactive::advance(disc, c.cgb_eval * (vg - vb), gb);
+    let bs_hist = reactive::advance(disc, q_bs, bs);
+    let bd_hist = reactive::advance(disc, q_bd, bd);
     Histories {
         gs_hist,
         gd_hist,
@@ -146,7 +146,7 @@ pub fn committed_histories(
 }
 
 // The limiter's predecessors are the committed voltages, flipped and not limited.
-pub fn committed_point(p: OperatingPoint, pol: f64, v: Voltages) -> OperatingPoint
+fn committed_point(p: OperatingPoint, pol: f64, v: Voltages) -> OperatingPoint
     ensures { λ r. ⌜ r ≡ committedPointOf p pol v ⌝ }
 {
     let vs = v.vs;
@@ -177,7 +177,7 @@ pub fn committed(d: Mosfet1, v: Voltages) -> Mosfet1
     let old_histories = d.histories;
     let disc = d.disc;
     let stage = d.stage;
-    let grading = crate::charges::grading(card, scaled);
+    let grading = charges::grading(card, scaled);
     let histories = committed_histories(old_histories, disc, charges, geometry, grading, v);
     let point = committed_point(old_point, card.polarity, v);
     Mosfet1 {

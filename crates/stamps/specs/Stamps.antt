@@ -9,7 +9,7 @@ use Rattle.device.specs.declared.Discretisation.{Discretisation}
 use Rattle.device.specs.declared.ChargeHistory.{ChargeHistory}
 use Rattle.device.specs.declared.OperatingPoint.{OperatingPoint}
 use Rattle.device.specs.declared.Mosfet1.{Mosfet1}
-use Rattle.level1.specs.Charge.{scaleOf, companionOf}
+use Rattle.reactive.specs.Charge.{scaleOf, companionOf}
 use Rattle.stamps.specs.declared.Position.{Position}
 use Rattle.stamps.specs.declared.Residual.{Residual}
 use Rattle.stamps.specs.declared.ChargeBranch.{ChargeBranch}

@@ -83,7 +83,7 @@ pub fn jac_pairs(t: Terminals) -> [Position; 24]
 }
 
 // A series resistance's conductance, 0 where there is none.
-pub fn series(r: f64) -> f64
+fn series(r: f64) -> f64
     ensures { λ g. ⌜ g ≡ seriesOf r ⌝ }
 {
     if r > 0.0 {
@@ -144,7 +144,7 @@ pub fn residual_values(d: Mosfet1) -> Residual
     }
 }
 
-pub fn branch(
+fn branch(
     pos: NodeId,
     neg: NodeId,
     c: f64,
@@ -157,8 +157,8 @@ pub fn branch(
 ) -> ChargeBranch
     ensures { λ r. ⌜ r ≡ branchOf pos neg c cv q remembers disc alpha hist ⌝ }
 {
-    let factor = level1::reactive::scale(disc, alpha);
-    let history = level1::reactive::companion(disc, alpha, q, cv, hist);
+    let factor = reactive::scale(disc, alpha);
+    let history = reactive::companion(disc, alpha, q, cv, hist);
     ChargeBranch {
         pos,
         neg,
@@ -170,7 +170,7 @@ pub fn branch(
 }
 
 // A junction with neither a bottom nor a sidewall capacitance has no history current.
-pub fn has_junction(bot: f64, sw: f64) -> bool
+fn has_junction(bot: f64, sw: f64) -> bool
     ensures { λ r. ⌜ r ≡ hasJunctionOf bot sw ⌝ }
 {
     if bot != 0.0 {
@@ -180,7 +180,7 @@ pub fn has_junction(bot: f64, sw: f64) -> bool
 }
 
 // The bulk-source or bulk-drain branch: the Jacobian's term at its voltage v is c·v, not its charge.
-pub fn junction_branch(
+fn junction_branch(
     pos: NodeId,
     neg: NodeId,
     c: f64,

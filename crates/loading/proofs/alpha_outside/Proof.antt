@@ -5,7 +5,7 @@ use Rattle.loading.proofs.alpha_outside.Statement.{statement}
 use Rattle.loading.proofs.alpha_outside.Tie as tie
 use Rattle.loading.proofs.alpha_outside.Reads as reads
 use Rattle.loading.proofs.alpha_outside.Lts as lts
-use Rattle.level1.proofs.reactive.has_step.Reads as has-step-reads
+use Rattle.reactive.proofs.has_step.Reads as has-step-reads
 use Rattle.loading.proofs.alpha_inside.Reads as alpha-inside-reads
 
 -- src/lib.rt:117:36

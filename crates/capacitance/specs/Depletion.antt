@@ -1,0 +1,42 @@
+-- The depletion capacitance and charge of a graded junction, with pb, the grading coefficient m, and from v = fc pb on a straight line.
+use mathlib.Core.Bool.{cond}
+use lib.Ieee.{Float, neg}
+use Rattle.exact.specs.Float64.{_⊕_, _⊖_, _⊗_, _⊘_, _<f_, _=f_, +0, +1}
+use Rattle.elementary.specs.Functions.{powOf}
+use Rattle.float.specs.Constants.{two}
+use Rattle.capacitance.specs.declared.Grading.{Grading}
+
+-- c0 (1 - v / pb) ^ -m
+unfoldable pub cjBelowOf : Float → Float → Float → Float → Float
+cjBelowOf pb c0 v m = c0 ⊗ powOf (+1 ⊖ v ⊘ pb) (neg m)
+
+-- c0 / (1 - fc) ^ (1 + m) · (1 - fc (1 + m) + m v / pb)
+unfoldable pub cjAboveOf : Float → Float → Float → Float → Float → Float
+cjAboveOf fc pb c0 v m = c0 ⊘ powOf (+1 ⊖ fc) (+1 ⊕ m) ⊗ (+1 ⊖ fc ⊗ (+1 ⊕ m) ⊕ m ⊗ v ⊘ pb)
+
+-- no capacitance at zero bias, none at any
+unfoldable pub cjDeplMOf : Float → Float → Float → Float → Float → Float
+cjDeplMOf fc pb c0 v m = cond (c0 =f +0) +0 (cond (v <f fc ⊗ pb) (cjBelowOf pb c0 v m) (cjAboveOf fc pb c0 v m))
+
+-- c0 pb / (1 - m) · (1 - x ^ (1 - m)) at x = 1 - v / pb
+unfoldable pub qBelowOf : Float → Float → Float → Float → Float
+qBelowOf pb c0 x m = c0 ⊗ pb ⊘ (+1 ⊖ m) ⊗ (+1 ⊖ powOf x (+1 ⊖ m))
+
+-- the charge at fc pb, and the line's integral from there:
+-- c0 / (1 - fc) ^ (1 + m) · ((1 - fc (1 + m)) (v - fc pb) + m / (2 pb) · (v² - (fc pb)²))
+unfoldable pub qAboveOf : Float → Float → Float → Float → Float → Float
+qAboveOf fc pb c0 v m =
+    qBelowOf pb c0 (+1 ⊖ fc) m ⊕ c0 ⊘ powOf (+1 ⊖ fc) (+1 ⊕ m)
+    ⊗ ((+1 ⊖ fc ⊗ (+1 ⊕ m)) ⊗ (v ⊖ fc ⊗ pb) ⊕ m ⊘ (two ⊗ pb) ⊗ (v ⊗ v ⊖ fc ⊗ pb ⊗ (fc ⊗ pb)))
+
+unfoldable pub qDeplMOf : Float → Float → Float → Float → Float → Float
+qDeplMOf fc pb c0 v m = cond (c0 =f +0) +0 (cond (v <f fc ⊗ pb) (qBelowOf pb c0 (+1 ⊖ v ⊘ pb) m) (qAboveOf fc pb c0 v m))
+
+-- a whole junction: the bottom graded by mj, the sidewall by mjsw, each with its own temperature factor
+unfoldable pub cjDeplOf : Grading → Float → Float → Float → Float
+cjDeplOf g bot sw v =
+    cjDeplMOf (g .fc) (g .«pb_t») (bot ⊗ g .«cj_t_factor») v (g .mj) ⊕ cjDeplMOf (g .fc) (g .«pb_t») (sw ⊗ g .«cjsw_t_factor») v (g .mjsw)
+
+unfoldable pub qDeplOf : Grading → Float → Float → Float → Float
+qDeplOf g bot sw v =
+    qDeplMOf (g .fc) (g .«pb_t») (bot ⊗ g .«cj_t_factor») v (g .mj) ⊕ qDeplMOf (g .fc) (g .«pb_t») (sw ⊗ g .«cjsw_t_factor») v (g .mjsw)

@@ -1,0 +1,2 @@
+pub mod Meyer
+pub mod Depletion

@@ -1,9 +1,0 @@
-pub mod Constants
-pub mod Limiter
-pub mod Threshold
-pub mod Channel
-pub mod Junction
-pub mod Meyer
-pub mod Depletion
-pub mod Charge
-pub mod Noise
