@@ -95,11 +95,11 @@ module _ {vj : Float} (f : T (fits binary64 vj)) (P : Nominal vj) {tnom : Float}
       let L = sum-at-least 4 (1 // 2 ^ 58) P (range-neg p) f (neg-fits binary64 (pbfactOf tnom) (pbfact-fits tnom)) (≤-trans (lit-≤ tt) (≤-trans (P .above) (le-abs (value vj)))) tt nz in
       quotient-at-least (1 // 2 ^ 60) D L F tt
 
--- ---- a term of the law: at most 34 2 ^ 60 in size, for an exponent that row 4 accepts and a potential from -5 to 32
+-- ---- a term of the law: at most 34 2 ^ 60 in size, for an exponent that row 4 accepts (the f64 0.9 lies above 9 // 10) and a potential from -5 to 32
 abbrev term-bound : ℚ
 term-bound = nat (34 * 2 ^ 60)
 
-module _ {vj m pbo t : Float} (P : Range vj (negq (nat 5)) (nat 32)) (M : Range m (nat 0) (9 // 10)) (Q : Range pbo (negq (18 // 10)) (nat 18)) (L : Away pbo (1 // 2 ^ 60)) (K : Ordinary t) where
+module _ {vj m pbo t : Float} (P : Range vj (negq (nat 5)) (nat 32)) (M : Range m (nat 0) (91 // 100)) (Q : Range pbo (negq (18 // 10)) (nat 18)) (L : Away pbo (1 // 2 ^ 60)) (K : Ordinary t) where
   slope-term : Range (m ⊗ (capSlope ⊗ (t ⊖ reftempK) ⊖ (vj ⊖ pbo) ⊘ pbo)) (negq (nat (33 * 2 ^ 60))) (nat (33 * 2 ^ 60))
   unfolding computing
   slope-term =
@@ -124,7 +124,7 @@ by-test true f g = f refl
 by-test false f g = g refl
 
 -- at most 2 ^ 120 in size
-module _ {vj m : Float} (f : T (fits binary64 vj)) (P : Nominal vj) (M : Range m (nat 0) (9 // 10)) {t tnom : Float} (K : Ordinary t) (N : Ordinary tnom) where
+module _ {vj m : Float} (f : T (fits binary64 vj)) (P : Nominal vj) (M : Range m (nat 0) (91 // 100)) {t tnom : Float} (K : Ordinary t) (N : Ordinary tnom) where
   pub cap-factor-range : Range (junctionCapFactorOf vj m t tnom) (negq (nat (2 ^ 120))) (nat (2 ^ 120))
   unfolding junctionCapFactorOf computing
   cap-factor-range =

@@ -60,7 +60,7 @@ module _ {t : Float} (K : Ordinary t) where
     scaled-potential-atMost P = range-atMost (scaled-phi-range P N K) (pos 5) (lit-≤ tt) (lit-≤ tt)
 
     -- finite though it has a pole
-    pub cap-factor-atMost : {vj m : Float} → T (fits binary64 vj) → Nominal vj → Range m (nat 0) (9 // 10) → AtMost (junctionCapFactorOf vj m t tnom) (pos 120)
+    pub cap-factor-atMost : {vj m : Float} → T (fits binary64 vj) → Nominal vj → Range m (nat 0) (91 // 100) → AtMost (junctionCapFactorOf vj m t tnom) (pos 120)
     unfolding computing
     cap-factor-atMost f P M = range-atMost (cap-factor-range f P M K N) (pos 120) (lit-≤ tt) (lit-≤ tt)
 

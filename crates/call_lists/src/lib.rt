@@ -1,0 +1,1 @@
+// Lists of calls on a fresh device: definitions and laws, no function.

@@ -1,0 +1,7 @@
+pub mod RelativeOnly
+pub mod Factors
+pub mod Currents
+pub mod Errors
+pub mod Zeros
+pub mod Returns
+pub mod Examples

@@ -1,0 +1,4 @@
+pub mod Stamps
+pub mod Evaluations
+pub mod Charges
+pub mod Currents

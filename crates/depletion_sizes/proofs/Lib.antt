@@ -1,0 +1,4 @@
+pub mod Branches
+pub mod Powers
+pub mod Bases
+pub mod Depletion

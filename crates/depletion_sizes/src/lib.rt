@@ -1,0 +1,1 @@
+// The sizes of a junction's depletion capacitance and charge: laws only, no function.

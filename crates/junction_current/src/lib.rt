@@ -1,0 +1,1 @@
+// Demand 3 for a bulk junction, over plain floats: definitions and laws, no function.

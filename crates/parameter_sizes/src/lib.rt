@@ -1,0 +1,1 @@
+// The sizes and signs of every parameter after accepted calls: definitions and laws, no function.

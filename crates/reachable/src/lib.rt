@@ -1,0 +1,1 @@
+// Definitions and laws alone: the bounds of every device that a list of calls can leave.
