@@ -5,11 +5,11 @@ use lib.IntN.{pos}
 use lib.Ieee.{Float}
 use Rattle.exact.specs.Fraction.{ℚ, _//_, nat, _+q_, _-q_, _*q_, absq, _≤q_, _≈q_, Within}
 use Rattle.exact.specs.FloatValue.{value}
-use Rattle.exact.specs.Float64.{_⊖_, _⊗_}
+use Rattle.exact.specs.Float64.{_⊗_}
 use Rattle.exact.specs.Size.{exp2, AtMost}
 use Rattle.exact.proofs.Computing.{computing}
 use Rattle.exact.proofs.Claims.{Claim, _≤?_, Facts, facts}
-use Rattle.exact.proofs.FractionLaws.{≈-refl, ≈-sym, ≈-trans, *-comm, *-cong, ≤-of-≈, ≤-refl, ≤-trans, *-mono}
+use Rattle.exact.proofs.FractionLaws.{≈-refl, ≈-sym, ≈-trans, *-comm, *-cong, ≤-of-≈, ≤-refl, ≤-trans, +-mono, *-mono, lit-≤}
 use Rattle.exact.proofs.FractionProver.{qv, ##, _÷_, _⊞_, _⊟_, _⊠_, req, linq, _⊑_by_}
 use Rattle.exact.proofs.StrictOrder.{*-nonneg}
 use Rattle.exact.proofs.AbsoluteValue.{abs-nonneg, abs-*-≈, abs-cong, abs-of-nonneg}
@@ -77,6 +77,10 @@ history-error = 1 // 2 ^ 45
 abbrev history-underflow : ℚ
 history-underflow = 1 // 2 ^ 918
 
+pub relative-nonneg : nat 0 ≤q relativeTolerance
+unfolding computing
+relative-nonneg = lit-≤ tt
+
 limits : Facts (limit-claims conductance-error history-error conductance-underflow history-underflow (exp2 (pos 11)) relativeTolerance absoluteTolerance)
 unfolding computing
 limits = facts (limit-claims conductance-error history-error conductance-underflow history-underflow (exp2 (pos 11)) relativeTolerance absoluteTolerance) tt
@@ -120,14 +124,15 @@ module _ {g : Float} {b : Branch} {terms : List ℚ} (M : Method g b terms) {c v
         within-≈ (≈-refl _) (req (S ∷ value c ∷ value v ∷ total terms ∷ []) (qv 2 ⊠ (qv 0 ⊠ qv 1) ⊟ (qv 0 ⊠ (qv 1 ⊠ qv 2) ⊟ qv 3)) (qv 3) tt tt)
         (within-minus (within-≈ (≈-trans (*-comm (value v) (value (g ⊗ c))) (*-cong (≈-sym same) (≈-refl (value v)))) (≈-refl _) (mul-within (value v) (conductance .est .close))) (history .est .close))
 
-    pub current-close : Within (L *q value v -q value (historyOf b (c ⊗ v))) (total terms) (chargeBound (sizes terms +q absq (L *q value v)))
+    pub current-close : (scale : ℚ) → sizes terms +q absq (L *q value v) ≤q scale → Within (L *q value v -q value (historyOf b (c ⊗ v))) (total terms) (chargeBound scale)
     unfolding chargeBound
-    current-close =
+    current-close scale h =
         let B = sizes terms in
         let Y = absq (value (g ⊗ c)) in
         let W = absq (L *q value v) in
         let k = conductance-error in let t = conductance-underflow in
         let l = history-error in let s = history-underflow in
         let p = product-fits S a u B Y W k l t s (abs-nonneg (value v)) (*-nonneg (M .matrix .near .above) (abs-nonneg (value c))) (limits .0) conductance-size product-size in
-        within-mono current-near
+        within-mono current-near (≤-trans
         (errors-fit S a u B Y W k l t s (exp2 (pos 11)) relativeTolerance absoluteTolerance limits (abs-nonneg (value v)) (U .size) (≤-trans (abs-nonneg (total terms)) (M .current .est .size)) (abs-nonneg (L *q value v)) p)
+        (+-mono (*-mono relative-nonneg h) (≤-refl absoluteTolerance)))

@@ -1,7 +1,7 @@
 -- The factor of the charge under each method, 1 / h, 2 / h and BDF-2's, as the matrix has it and as the current has it: both stand for one exact factor.
 use Prim.Native.Nat.{_^_}
 use mathlib.Core.Path.{_≡_, refl, sym, subst}
-use lib.Ieee.{Float, binary64, ofBits, lt, mul}
+use lib.Ieee.{Float, ofBits, lt, mul}
 use Rattle.exact.specs.Fraction.{ℚ, _//_, nat, _+q_, _*q_, _/q_, _≤q_}
 use Rattle.exact.specs.FloatValue.{value}
 use Rattle.exact.specs.Float64.{_⊕_, _⊗_, _⊘_, +1, maximum}

@@ -1,4 +1,5 @@
 pub mod RelativeOnly
+pub mod Terms
 pub mod Factors
 pub mod Currents
 pub mod Errors

@@ -3,7 +3,7 @@
 use Prim.Native.Nat.{_^_}
 use mathlib.Core.List.{List, [], _∷_}
 use lib.Dec.{T}
-use lib.Ieee.{Float, binary64}
+use lib.Ieee.{Float}
 use lib.Ieee.Scale.{finite}
 use Rattle.exact.specs.Fraction.{ℚ, _//_, nat, _+q_, _-q_, _*q_, _/q_, absq, _≤q_, _<q_, _≈q_, Within, ltqb}
 use Rattle.exact.specs.FloatValue.{value}
@@ -12,7 +12,7 @@ use Rattle.exact.specs.Size.{Range}
 use Rattle.exact.proofs.Claims.{Claim, _≤?_, all, Facts, facts}
 use Rattle.exact.proofs.FractionLaws.{≈-refl, ≈-sym, ≤-of-≈, ≤-refl, ≤-trans, *-comm, *-cong-r, +-mono, *-mono}
 use Rattle.exact.proofs.FractionProver.{qv, ##, _⊞_, _⊟_, _⊠_, leq, linq, _⊑_by_}
-use Rattle.exact.proofs.StrictOrder.{<-≤-trans, ≤-<-trans, lit-<, *-nonneg, ≤-of-<}
+use Rattle.exact.proofs.StrictOrder.{<-≤-trans, ≤-<-trans, lit-<, ≤-of-<}
 use Rattle.exact.proofs.AbsoluteValue.{le-abs, abs-of-nonneg, abs-of-upto, not-zero-of-pos}
 use Rattle.exact.proofs.Closeness.{*-mono₂, within-mono, within-refl, within-≈}
 use Rattle.exact.proofs.FractionDivision.{div-≤, ≤-div, div-cong}

@@ -1,6 +1,6 @@
 -- A charge branch in demand 3: the method's exact current, what a loaded branch returns, and how near the two must be.
 use Prim.Native.Nat.{_^_}
-use mathlib.Core.Bool.{Bool, cond}
+use mathlib.Core.Bool.{cond}
 use mathlib.Core.List.{List, [], _∷_}
 use lib.Dec.{T}
 use lib.IntN.{pos}
@@ -17,6 +17,10 @@ use Rattle.device.specs.declared.ChargeHistory.{ChargeHistory}
 use Rattle.stamps.specs.declared.ChargeBranch.{ChargeBranch}
 
 -- ---- "the method's exact current for the evaluated charge", term by term; "only the present step's formula is exact"
+-- without a step: alpha (q - q1)
+unfoldable pub alphaTerms : ℚ → ℚ → ℚ → List ℚ
+alphaTerms alpha q q1 = (alpha *q (q -q q1)) ∷ []
+
 -- (q - q1) / h
 unfoldable pub eulerTerms : ℚ → ℚ → ℚ → List ℚ
 eulerTerms h q q1 = ((q -q q1) /q h) ∷ []
@@ -35,9 +39,8 @@ unfoldable pub gearOrEulerTerms : Given → ℚ → ℚ → ℚ → ℚ → List
 gearOrEulerTerms (Value q2) h h1 q q1 = gearTerms h (h /q h1) q q1 (value q2)
 gearOrEulerTerms Absent h h1 q q1 = eulerTerms h q q1
 
--- without a step alpha (q - q1)
 unfoldable pub exactTerms : Discretisation → Float → Float → ChargeHistory → List ℚ
-exactTerms None alpha q past = (value alpha *q (value q -q value (past .«q_prev»))) ∷ []
+exactTerms None alpha q past = alphaTerms (value alpha) (value q) (value (past .«q_prev»))
 exactTerms (Euler h) alpha q past = eulerTerms (value h) (value q) (value (past .«q_prev»))
 exactTerms (Trapezoid h) alpha q past = trapezoidTerms (value h) (value q) (value (past .«q_prev»)) (value (past .«i_prev»))
 exactTerms (Gear h h1) alpha q past = gearOrEulerTerms (past .«q_prev2») (value h) (value h1) (value q) (value (past .«q_prev»))
