@@ -12,7 +12,8 @@ use Rattle.device.specs.declared.Stage.{Stage}
 use Rattle.device.specs.declared.Stage.the-variants as Stages
 use Rattle.bias.specs.declared.Kept.{Kept}
 use Rattle.model.specs.Calls.{commitOf, commitAnswerOf}
-use Rattle.rows.specs.Rows.{coldest, hottest, unboundOf, unevaluatedOf, row8Of, row9Of, outsideOf, voltagesOf, commitRowOf, noiseRowOf}
+use Rattle.device.specs.Limits.{coldest, hottest}
+use Rattle.rows.specs.Rows.{unboundOf, unevaluatedOf, row8Of, row9Of, outsideOf, voltagesOf, commitRowOf, noiseRowOf}
 use Rattle.model.specs.SmallSignal.{noiseOf, noiseAnswerOf, reactancesOf}
 use Rattle.model.specs.declared.calls.Commit.the-variants as Commit
 use Rattle.model.specs.declared.small_signal.FiveReactances.{FiveReactances}

@@ -25,7 +25,8 @@ use Rattle.mosfet1.specs.Steps.{evaluatedOf, committedOf}
 use Rattle.bias.specs.declared.Voltages.{Voltages}
 use Rattle.mosfet1.specs.declared.steps.Conditions.{Conditions}
 use Rattle.mosfet1.specs.declared.steps.Evaluated.{Evaluated}
-use Rattle.rows.specs.Rows.{coldest, hottest, kilovolt, shortestStep, voltagesOf, outsideOf, row6Of, row8Of, row9Of, unboundOf, unevaluatedOf, badStepOf, row11Of, evalRowOf, commitRowOf}
+use Rattle.device.specs.Limits.{coldest, hottest}
+use Rattle.rows.specs.Rows.{kilovolt, shortestStep, voltagesOf, outsideOf, row6Of, row8Of, row9Of, unboundOf, unevaluatedOf, badStepOf, row11Of, evalRowOf, commitRowOf}
 use Rattle.model.specs.Calls.{evaluationOf, evalOf, commitAnswerOf, commitOf}
 use Rattle.model.specs.declared.calls.Evaluation.{Evaluation}
 use Rattle.model.specs.declared.calls.Evaluation.the-variants as Evaluation

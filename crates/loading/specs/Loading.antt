@@ -6,12 +6,14 @@ use mathlib.Core.List.{List}
 use lib.ListN.{length}
 use lib.Dec.{ltb}
 use lib.Ieee.{Float, binary64, ofBits}
-use Rattle.exact.specs.Float64.{_≤f_, +0, +1}
+use Rattle.exact.specs.Float64.{+0, +1}
 use Rattle.pattern.specs.Pattern.{wellFormed}
+use Rattle.device.specs.Limits.{within}
+use Rattle.device.specs.Stages.{before}
 use Rattle.device.specs.declared.NodeId.{NodeId}
 use Rattle.device.specs.declared.NodeId.the-variants.{Ground, At}
 use Rattle.device.specs.declared.Stage.{Stage}
-use Rattle.device.specs.declared.Stage.the-variants.{Card, Geometry, Scaled, Bound, Evaluated}
+use Rattle.device.specs.declared.Stage.the-variants as Stage
 use Rattle.device.specs.declared.Discretisation.{Discretisation}
 use Rattle.device.specs.declared.Terminals.{Terminals}
 use Rattle.device.specs.declared.Mosfet1.{Mosfet1}
@@ -27,11 +29,7 @@ use Rattle.loading.specs.declared.LoadAnswer.the-variants.{Done, Refused
 
 -- row 8: a node is not below the lent length or the row count; before binding there are no nodes
 unfoldable pub isBound : Stage → Bool
-isBound Card = false
-isBound Geometry = false
-isBound Scaled = false
-isBound Bound = true
-isBound Evaluated = true
+isBound stage = not (before stage Stage.Bound)
 
 unfoldable pub nodeBelow : NodeId → ℕ → Bool
 nodeBelow Ground n = true
@@ -51,18 +49,14 @@ nodesOutside stage t len rows = isBound stage && not (nodesBelow t len && nodesB
 
 -- row 10: no evaluation was accepted
 unfoldable pub isEvaluated : Stage → Bool
-isEvaluated Card = false
-isEvaluated Geometry = false
-isEvaluated Scaled = false
-isEvaluated Bound = false
-isEvaluated Evaluated = true
+isEvaluated stage = not (before stage Stage.Evaluated)
 
 -- row 11: a transient load's alpha is outside 1 to 1e16, where the last evaluation had no step; a NaN is outside
 abbrev pub alphaLimit : Float
 alphaLimit = ofBits binary64 0x4341_c379_37e0_8000
 
 unfoldable pub alphaInside : Float → Bool
-alphaInside alpha = (+1 ≤f alpha) && (alpha ≤f alphaLimit)
+alphaInside alpha = within alpha +1 alphaLimit
 
 unfoldable pub alphaOutside : Discretisation → LoadKind → Bool
 alphaOutside disc DirectCurrent = false

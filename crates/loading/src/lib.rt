@@ -29,25 +29,13 @@ pub enum LoadAnswer {
 fn is_bound(stage: Stage) -> bool
     ensures { λ r. ⌜ r ≡ isBound stage ⌝ }
 {
-    match stage {
-        Stage::Card => false,
-        Stage::Geometry => false,
-        Stage::Scaled => false,
-        Stage::Bound => true,
-        Stage::Evaluated => true,
-    }
+    !device::before(stage, Stage::Bound)
 }
 
 fn is_evaluated(stage: Stage) -> bool
     ensures { λ r. ⌜ r ≡ isEvaluated stage ⌝ }
 {
-    match stage {
-        Stage::Card => false,
-        Stage::Geometry => false,
-        Stage::Scaled => false,
-        Stage::Bound => false,
-        Stage::Evaluated => true,
-    }
+    !device::before(stage, Stage::Evaluated)
 }
 
 fn node_below(node: NodeId, len: usize) -> bool
@@ -102,10 +90,7 @@ fn nodes_outside(stage: Stage, t: Terminals, len: usize, rows: usize) -> bool
 fn alpha_inside(alpha: f64) -> bool
     ensures { λ r. ⌜ r ≡ alphaInside alpha ⌝ }
 {
-    if 1.0 <= alpha {
-        return alpha <= 1e16;
-    }
-    false
+    device::within(alpha, 1.0, 1e16)
 }
 
 // Row 11.

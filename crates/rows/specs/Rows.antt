@@ -5,22 +5,17 @@ use mathlib.Core.List.{List}
 use lib.Dec.{leb}
 use lib.ListN.{length, getD}
 use lib.Ieee.{Float, binary64, ofBits, neg}
-use Rattle.exact.specs.Float64.{_≤f_, +0, +1}
+use Rattle.exact.specs.Float64.{+0, +1}
+use Rattle.device.specs.Limits.{within, coldest, hottest}
+use Rattle.device.specs.Stages.{before}
 use Rattle.device.specs.declared.NodeId.{NodeId}
 use Rattle.device.specs.declared.NodeId.the-variants.{Ground, At}
 use Rattle.device.specs.declared.Stage.{Stage}
-use Rattle.device.specs.declared.Stage.the-variants as Stages
+use Rattle.device.specs.declared.Stage.the-variants as Stage
 use Rattle.device.specs.declared.Discretisation.{Discretisation}
 use Rattle.device.specs.declared.Discretisation.the-variants.{None, Euler, Trapezoid, Gear}
 use Rattle.device.specs.declared.Terminals.{Terminals}
 use Rattle.bias.specs.declared.Voltages.{Voltages}
-
--- 200 K, 500 K
-abbrev pub coldest : Float
-coldest = ofBits binary64 0x4069_0000_0000_0000
-
-abbrev pub hottest : Float
-hottest = ofBits binary64 0x407f_4000_0000_0000
 
 -- 1,000 V
 abbrev pub kilovolt : Float
@@ -40,7 +35,7 @@ voltagesOf x t = record { vd = nodeVoltageOf x (t .drain); vg = nodeVoltageOf x 
 
 -- not from lo to hi, or NaN
 unfoldable pub outsideOf : Float → Float → Float → Bool
-outsideOf lo hi v = not ((lo ≤f v) && (v ≤f hi))
+outsideOf lo hi v = not (within v lo hi)
 
 -- row 6: temperature outside 200 to 500 K, gmin outside 0 to 1, or one of them NaN
 unfoldable pub row6Of : Float → Float → Bool
@@ -64,18 +59,10 @@ row9Of v =
 
 -- row 10: before binding for an evaluation, before the first evaluation for what follows it
 unfoldable pub unboundOf : Stage → Bool
-unboundOf Stages.Card = true
-unboundOf Stages.Geometry = true
-unboundOf Stages.Scaled = true
-unboundOf Stages.Bound = false
-unboundOf Stages.Evaluated = false
+unboundOf stage = before stage Stage.Bound
 
 unfoldable pub unevaluatedOf : Stage → Bool
-unevaluatedOf Stages.Card = true
-unevaluatedOf Stages.Geometry = true
-unevaluatedOf Stages.Scaled = true
-unevaluatedOf Stages.Bound = true
-unevaluatedOf Stages.Evaluated = false
+unevaluatedOf stage = before stage Stage.Evaluated
 
 -- row 11: h or the earlier h outside 1e-15 to 1, or NaN
 unfoldable pub badStepOf : Float → Bool

@@ -50,12 +50,7 @@ pub fn voltages(x: &[f64], t: Terminals) -> Voltages
 fn outside(lo: f64, hi: f64, v: f64) -> bool
     ensures { λ r. ⌜ r ≡ outsideOf lo hi v ⌝ }
 {
-    if lo <= v {
-        if v <= hi {
-            return false;
-        }
-    }
-    true
+    !device::within(v, lo, hi)
 }
 
 fn row6(temperature: f64, gmin: f64) -> bool
@@ -104,25 +99,13 @@ fn row9(v: Voltages) -> bool
 fn unbound(stage: Stage) -> bool
     ensures { λ r. ⌜ r ≡ unboundOf stage ⌝ }
 {
-    match stage {
-        Stage::Card => true,
-        Stage::Geometry => true,
-        Stage::Scaled => true,
-        Stage::Bound => false,
-        Stage::Evaluated => false,
-    }
+    device::before(stage, Stage::Bound)
 }
 
 pub fn unevaluated(stage: Stage) -> bool
     ensures { λ r. ⌜ r ≡ unevaluatedOf stage ⌝ }
 {
-    match stage {
-        Stage::Card => true,
-        Stage::Geometry => true,
-        Stage::Scaled => true,
-        Stage::Bound => true,
-        Stage::Evaluated => false,
-    }
+    device::before(stage, Stage::Evaluated)
 }
 
 fn bad_step(h: f64) -> bool

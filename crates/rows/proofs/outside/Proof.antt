@@ -1,18 +1,14 @@
 use Rattle.rows.specs.Rows.{outsideOf}
+use borrow.Author.Needs.{needs}
 use Rattle.rows.proofs.outside.Statement.{statement}
 use Rattle.rows.proofs.outside.Tie as tie
 
+within-requires : tie.Need-within-requires
+within-requires c κs = search needs
+
 returns : tie.Need-returns
 unfolding outsideOf
-returns c = rw (c .before .if1 .taken, c .if2 .taken)
-
-returns-2 : tie.Need-returns-2
-unfolding outsideOf
-returns-2 c = rw (c .before .if1 .taken, c .if2 .left)
-
-returns-3 : tie.Need-returns-3
-unfolding outsideOf
-returns-3 c = rw (c .if1 .left)
+returns c = rw (c .within .ensures)
 
 pub outside-spec : {M : Type 1} → statement M
-outside-spec = tie.close (tie.spec returns returns-2 returns-3)
+outside-spec = tie.close (tie.spec within-requires returns)
