@@ -5,4 +5,6 @@ pub mod RegionChoice
 pub mod Polarity
 pub mod NortonCurrent
 pub mod BodyTerm
+pub mod ErrorSum
 pub mod ChannelReturns
+pub mod WorkedCases

@@ -5,14 +5,16 @@ use lib.IntN.{ℤ, pos}
 use lib.Ieee.{Float, neg}
 use Rattle.exact.specs.Fraction.{ℚ, _//_, nat, _+q_, _*q_, absq, _≤q_, Within}
 use Rattle.exact.specs.FloatValue.{value}
-use Rattle.exact.specs.Float64.{_⊗_}
-use Rattle.exact.specs.Size.{exp2, AtMost}
+use Rattle.exact.specs.Float64.{_⊗_, _⊕_}
+use Rattle.exact.specs.Size.{exp2, AtMost, NonNegative}
 use Rattle.exact.proofs.Computing.{computing}
-use Rattle.exact.proofs.FractionLaws.{≤-trans, *-mono, lit-≤}
-use Rattle.exact.proofs.FractionProver.{qv, ##, _⊞_, _⊠_, linq, _⊑_by_}
+use Rattle.exact.proofs.FractionLaws.{≤-trans, *-mono, lit-≤, ≤-of-≈}
+use Rattle.exact.proofs.FractionProver.{qv, ##, _⊞_, _⊠_, linq, _⊑_by_, _÷_}
 use Rattle.exact.proofs.Closeness.{within-mono, abs-nonneg}
 use Rattle.exact.proofs.ErrorCalculus.{est-size}
-use Rattle.exact.proofs.RelativeErrors.{Rel, rel-est, rel-atMost, rel-neg, rel-⊗}
+use Rattle.exact.proofs.RelativeErrors.{Rel, rel-est, rel-atMost, rel-neg, rel-⊗, rel-⊕}
+use Rattle.exact.proofs.AbsoluteValue.{abs-of-nonneg}
+use Rattle.exact.proofs.Rounding.{frac-nonneg}
 
 -- what underflows, in any of the channel's values
 abbrev pub underflow : ℚ
@@ -68,3 +70,29 @@ body-size {gm} {slope} G L =
     product-≤ =
         let h : absq (value slope) ≤q nat (2 ^ 24) = ≤-trans (L .size) (lit-≤ tt) in
         linq (absq (value gm) ∷ absq (value slope) ∷ nat (2 ^ 24) ∷ []) ((qv 0 ⊠ qv 1 ⊑ qv 0 ⊠ qv 2 by 1) ∷ []) 0 (qv 0 ⊠ qv 1) (qv 2 ⊠ qv 0) tt (*-mono (abs-nonneg (value gm)) h)
+
+-- ---- gds with gmin on top
+module _ {gds gmin : Float} {g : ℚ} (g₀ : nat 0 ≤q g) (D : AtMost gds (pos 80)) (d : absq (value gds) ≤q nat 7 *q g +q underflow) (Q : NonNegative gmin) (Q0 : AtMost gmin (pos 0)) where
+  pub with-gmin-size : absq (value (gds ⊕ gmin)) ≤q nat 8 *q g +q nat 2 *q value gmin +q nat 3 *q underflow
+  unfolding computing
+  with-gmin-size =
+      linq (absq (value (gds ⊕ gmin)) ∷ absq (value gds) ∷ absq (value gmin) ∷ g ∷ value gmin ∷ underflow ∷ (1 // 2 ^ 1075) ∷ [])
+      ((qv 0 ⊑ qv 1 ⊞ qv 2 ⊞ (1 ÷ 2 ^ 53 ⊠ (qv 1 ⊞ qv 2) ⊞ qv 6) by 9007199254740992)
+      ∷ (qv 1 ⊑ ## 7 ⊠ qv 3 ⊞ qv 5 by 9007199254740993)
+      ∷ (qv 2 ⊑ qv 4 by 9007199254740993)
+      ∷ (## 0 ⊑ qv 3 by 9007199254740985)
+      ∷ (## 0 ⊑ qv 4 by 9007199254740991)
+      ∷ (## 0 ⊑ qv 5 by 9007199254740991)
+      ∷ (qv 6 ⊑ qv 5 by 9007199254740992)
+      ∷ [])
+      9007199254740991
+      (qv 0)
+      (## 8 ⊠ qv 3 ⊞ ## 2 ⊠ qv 4 ⊞ ## 3 ⊠ qv 5)
+      tt
+      (est-size (rel-⊕ (rel-atMost D) (rel-atMost Q0) (nat (2 ^ 81)) (1 // 2 ^ 53) (1 // 2 ^ 1075) tt .est))
+      d
+      (≤-of-≈ (abs-of-nonneg (Q .sign)))
+      g₀
+      (Q .sign)
+      (frac-nonneg 1 (2 ^ 990))
+      (lit-≤ tt)
