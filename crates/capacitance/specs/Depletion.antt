@@ -40,3 +40,7 @@ cjDeplOf g bot sw v =
 unfoldable pub qDeplOf : Grading → Float → Float → Float → Float
 qDeplOf g bot sw v =
     qDeplMOf (g .fc) (g .«pb_t») (bot ⊗ g .«cj_t_factor») v (g .mj) ⊕ qDeplMOf (g .fc) (g .«pb_t») (sw ⊗ g .«cjsw_t_factor») v (g .mjsw)
+
+-- the base of the powers: 1 - v / pb, and 1 - fc from fc pb on
+unfoldable pub baseOf : Float → Float → Float → Float
+baseOf fc pb v = cond (v <f fc ⊗ pb) (+1 ⊖ v ⊘ pb) (+1 ⊖ fc)

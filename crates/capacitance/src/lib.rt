@@ -1,8 +1,12 @@
 // The gate's Meyer shares and the junctions' depletion laws (mosfet1.rs).
 use channel::Region;
+use elementary::Log;
+use elementary::log_of;
+use elementary::pow_of;
 ghost use mathlib.Core.Path.{_≡_};
+ghost use Rattle.elementary.specs.Functions.{logOf};
 ghost use Rattle.capacitance.specs.Meyer.{meyerOf};
-ghost use Rattle.capacitance.specs.Depletion.{cjDeplMOf, qDeplMOf, cjDeplOf, qDeplOf};
+ghost use Rattle.capacitance.specs.Depletion.{baseOf, cjDeplMOf, qDeplMOf, cjDeplOf, qDeplOf};
 
 // The channel's capacitance as shared among gate-source, gate-drain and gate-bulk.
 pub struct GateShares {
@@ -43,7 +47,20 @@ pub fn meyer(at: Region, cox_wl: f64) -> GateShares
     }
 }
 
-fn cj_depl_m(fc: f64, pb_t: f64, c0: f64, v: f64, m: f64) -> f64
+// The base of a junction's powers: 1 - v / pb up to fc pb, and 1 - fc from there.
+fn base(fc: f64, pb_t: f64, v: f64) -> f64
+    ensures { λ r. ⌜ r ≡ baseOf fc «pb_t» v ⌝ }
+{
+    let fc_pb = fc * pb_t;
+    if v < fc_pb {
+        return 1.0 - v / pb_t;
+    }
+    1.0 - fc
+}
+
+// The bottom's or the sidewall's capacitance, by the logarithm of the base.
+fn cj_depl_m(l: Log, fc: f64, pb_t: f64, c0: f64, v: f64, m: f64) -> f64
+    requires { ⌜ l ≡ logOf (baseOf fc «pb_t» v) ⌝ }
     ensures { λ r. ⌜ r ≡ cjDeplMOf fc «pb_t» c0 v m ⌝ }
 {
     if c0 == 0.0 {
@@ -51,51 +68,87 @@ fn cj_depl_m(fc: f64, pb_t: f64, c0: f64, v: f64, m: f64) -> f64
     }
     let fc_pb = fc * pb_t;
     if v < fc_pb {
-        let p = elementary::pow(1.0 - v / pb_t, -m);
+        let p = pow_of(l, -m);
         c0 * p
     } else {
-        let k = elementary::pow(1.0 - fc, 1.0 + m);
+        let k = pow_of(l, 1.0 + m);
         c0 / k * (1.0 - fc * (1.0 + m) + m * v / pb_t)
     }
 }
 
-fn q_depl_m(fc: f64, pb_t: f64, c0: f64, v: f64, m: f64) -> f64
+// The bottom's or the sidewall's charge, by the logarithm of the base.
+fn q_depl_m(l: Log, fc: f64, pb_t: f64, c0: f64, v: f64, m: f64) -> f64
+    requires { ⌜ l ≡ logOf (baseOf fc «pb_t» v) ⌝ }
     ensures { λ r. ⌜ r ≡ qDeplMOf fc «pb_t» c0 v m ⌝ }
 {
     if c0 == 0.0 {
         return 0.0;
     }
     let fc_pb = fc * pb_t;
+    let p = pow_of(l, 1.0 - m);
+    let q = c0 * pb_t / (1.0 - m) * (1.0 - p);
     if v < fc_pb {
-        let p = elementary::pow(1.0 - v / pb_t, 1.0 - m);
-        c0 * pb_t / (1.0 - m) * (1.0 - p)
-    } else {
-        let x_fc = 1.0 - fc;
-        let p = elementary::pow(x_fc, 1.0 - m);
-        let q_fc = c0 * pb_t / (1.0 - m) * (1.0 - p);
-        let k = elementary::pow(x_fc, 1.0 + m);
-        let f2 = 1.0 - fc * (1.0 + m);
-        let dv = v - fc_pb;
-        q_fc + c0 / k * (f2 * dv + m / (2.0 * pb_t) * (v * v - fc_pb * fc_pb))
+        return q;
     }
+    let k = pow_of(l, 1.0 + m);
+    let f2 = 1.0 - fc * (1.0 + m);
+    let dv = v - fc_pb;
+    q + c0 / k * (f2 * dv + m / (2.0 * pb_t) * (v * v - fc_pb * fc_pb))
 }
 
-pub fn cj_depl(g: Grading, bot: f64, sw: f64, v: f64) -> f64
-    ensures { λ r. ⌜ r ≡ cjDeplOf g bot sw v ⌝ }
+// A junction's capacitance and charge.
+pub struct Depletion {
+    pub c: f64,
+    pub q: f64,
+}
+
+// Both by one logarithm, which is not taken where the junction has no capacitance.
+pub fn cj_and_q_depl(g: Grading, bot: f64, sw: f64, v: f64) -> Depletion
+    ensures { λ r. ⌜ (r .c ≡ cjDeplOf g bot sw v) × (r .q ≡ qDeplOf g bot sw v) ⌝ }
 {
     let fc = g.fc;
     let pb_t = g.pb_t;
-    let bottom = cj_depl_m(fc, pb_t, bot * g.cj_t_factor, v, g.mj);
-    let sidewall = cj_depl_m(fc, pb_t, sw * g.cjsw_t_factor, v, g.mjsw);
-    bottom + sidewall
+    let mj = g.mj;
+    let mjsw = g.mjsw;
+    let cj_t_factor = g.cj_t_factor;
+    let cjsw_t_factor = g.cjsw_t_factor;
+    let bottom = bot * cj_t_factor;
+    let sidewall = sw * cjsw_t_factor;
+    if bottom == 0.0 {
+        if sidewall == 0.0 {
+            return Depletion { c: 0.0, q: 0.0 };
+        }
+    }
+    let l = log_of(base(fc, pb_t, v));
+    let cj_bottom = cj_depl_m(l, fc, pb_t, bottom, v, mj);
+    let cj_sidewall = cj_depl_m(l, fc, pb_t, sidewall, v, mjsw);
+    let q_bottom = q_depl_m(l, fc, pb_t, bottom, v, mj);
+    let q_sidewall = q_depl_m(l, fc, pb_t, sidewall, v, mjsw);
+    Depletion {
+        c: cj_bottom + cj_sidewall,
+        q: q_bottom + q_sidewall,
+    }
 }
 
+// The charge alone, as a commit asks for it.
 pub fn q_depl(g: Grading, bot: f64, sw: f64, v: f64) -> f64
     ensures { λ r. ⌜ r ≡ qDeplOf g bot sw v ⌝ }
 {
     let fc = g.fc;
     let pb_t = g.pb_t;
-    let bottom = q_depl_m(fc, pb_t, bot * g.cj_t_factor, v, g.mj);
-    let sidewall = q_depl_m(fc, pb_t, sw * g.cjsw_t_factor, v, g.mjsw);
-    bottom + sidewall
+    let mj = g.mj;
+    let mjsw = g.mjsw;
+    let cj_t_factor = g.cj_t_factor;
+    let cjsw_t_factor = g.cjsw_t_factor;
+    let bottom = bot * cj_t_factor;
+    let sidewall = sw * cjsw_t_factor;
+    if bottom == 0.0 {
+        if sidewall == 0.0 {
+            return 0.0;
+        }
+    }
+    let l = log_of(base(fc, pb_t, v));
+    let q_bot = q_depl_m(l, fc, pb_t, bottom, v, mj);
+    let q_sw = q_depl_m(l, fc, pb_t, sidewall, v, mjsw);
+    q_bot + q_sw
 }

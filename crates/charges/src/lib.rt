@@ -43,10 +43,8 @@ pub fn charges_at(geometry: Geometry, shares: GateShares, grading: Grading, v: V
     let cgb = geometry.cgb_ov + shares.gb;
     let vbs = vb - vs;
     let vbd = vb - vd;
-    let cbs = capacitance::cj_depl(grading, geometry.cbs_bot, geometry.cbs_sw, vbs);
-    let cbd = capacitance::cj_depl(grading, geometry.cbd_bot, geometry.cbd_sw, vbd);
-    let q_bs = capacitance::q_depl(grading, geometry.cbs_bot, geometry.cbs_sw, vbs);
-    let q_bd = capacitance::q_depl(grading, geometry.cbd_bot, geometry.cbd_sw, vbd);
+    let bs = capacitance::cj_and_q_depl(grading, geometry.cbs_bot, geometry.cbs_sw, vbs);
+    let bd = capacitance::cj_and_q_depl(grading, geometry.cbd_bot, geometry.cbd_sw, vbd);
     Charges {
         cgs_eval: cgs,
         cgd_eval: cgd,
@@ -56,9 +54,9 @@ pub fn charges_at(geometry: Geometry, shares: GateShares, grading: Grading, v: V
         q_gb_eval: cgb * (vg - vb),
         vbs_eval: vbs,
         vbd_eval: vbd,
-        cbs_eval: cbs,
-        cbd_eval: cbd,
-        q_bs_eval: q_bs,
-        q_bd_eval: q_bd,
+        cbs_eval: bs.c,
+        cbd_eval: bd.c,
+        q_bs_eval: bs.q,
+        q_bd_eval: bd.q,
     }
 }

@@ -1,5 +1,6 @@
 // The logarithm in fixed point: a guess, which the exponential confirms, and a search where it does not.
 ghost use mathlib.Core.Path.{_≡_};
+ghost use mathlib.Core.Bool.{true, cond};
 ghost use Prim.Native.Nat.{_+_, _-_, _*_, _/_, _%_, _^_, _≤_, _<_};
 ghost use lib.ListN.{getD};
 ghost use Rattle.logarithm.specs.FixedPoint.{lnTable, inverseOf, nearOne, guessOf, limit, distanceOf, bisect, lnMantOf, twosOf};
@@ -7,53 +8,82 @@ ghost use Rattle.logarithm.specs.Logarithm.{logAbove, logBelow, logBits,
 use exponential::mant;
 use wide::mulhi;
 
-// ln(1 + j / 16) in units of 2^-64, rounded down. A match, of which the compiler makes read-only data.
-fn ln_tab(j: u64) -> u64
-    requires { ⌜ j < 16 ⌝ }
-    ensures { λ r. ⌜ r ≡ getD lnTable j 0 ⌝ }
-{
-    match j {
-        0 => 0,
-        1 => 0x0f85186008b15330,
-        2 => 0x1e27076e2af2e5e9,
-        3 => 0x2bfe60e14f27a790,
-        4 => 0x391fef8f35344358,
-        5 => 0x459d72aeae98380e,
-        6 => 0x51862f08717b09f4,
-        7 => 0x5ce75fdaef401a73,
-        8 => 0x67cc8fb2fe612fca,
-        9 => 0x723fdf1e6a6886b0,
-        10 => 0x7c4a3d7ebc1bb2cd,
-        11 => 0x85f39721295415b4,
-        12 => 0x8f42faf3820681ef,
-        13 => 0x983eb99a7885f0fd,
-        14 => 0xa0ec7f4233957323,
-        15..=0xffff_ffff_ffff_ffff => 0xa9516932de2d5773,
-    }
+// 1 / (1 + j / 16) in units of 2^-63, rounded up, and ln(1 + j / 16) in units of 2^-64, rounded down.
+struct Row {
+    inverse: u64,
+    log: u64,
 }
 
-// 1 / (1 + j / 16) in units of 2^-63, rounded up.
-fn inverse(j: u64) -> u64
+// One match, of which the compiler makes read-only data: of two it makes a jump for each j.
+fn entry(j: u64) -> Row
     requires { ⌜ j < 16 ⌝ }
-    ensures { λ r. ⌜ r ≡ inverseOf j ⌝ }
+    ensures { λ r. ⌜ (r .inverse ≡ inverseOf j) × (r .log ≡ getD lnTable j 0) ⌝ }
 {
     match j {
-        0 => 0x8000000000000000,
-        1 => 0x7878787878787879,
-        2 => 0x71c71c71c71c71c8,
-        3 => 0x6bca1af286bca1b0,
-        4 => 0x6666666666666667,
-        5 => 0x6186186186186187,
-        6 => 0x5d1745d1745d1746,
-        7 => 0x590b21642c8590b3,
-        8 => 0x5555555555555556,
-        9 => 0x51eb851eb851eb86,
-        10 => 0x4ec4ec4ec4ec4ec5,
-        11 => 0x4bda12f684bda130,
-        12 => 0x4924924924924925,
-        13 => 0x469ee58469ee5847,
-        14 => 0x4444444444444445,
-        15..=0xffff_ffff_ffff_ffff => 0x4210842108421085,
+        0 => Row {
+            inverse: 0x8000000000000000,
+            log: 0,
+        },
+        1 => Row {
+            inverse: 0x7878787878787879,
+            log: 0x0f85186008b15330,
+        },
+        2 => Row {
+            inverse: 0x71c71c71c71c71c8,
+            log: 0x1e27076e2af2e5e9,
+        },
+        3 => Row {
+            inverse: 0x6bca1af286bca1b0,
+            log: 0x2bfe60e14f27a790,
+        },
+        4 => Row {
+            inverse: 0x6666666666666667,
+            log: 0x391fef8f35344358,
+        },
+        5 => Row {
+            inverse: 0x6186186186186187,
+            log: 0x459d72aeae98380e,
+        },
+        6 => Row {
+            inverse: 0x5d1745d1745d1746,
+            log: 0x51862f08717b09f4,
+        },
+        7 => Row {
+            inverse: 0x590b21642c8590b3,
+            log: 0x5ce75fdaef401a73,
+        },
+        8 => Row {
+            inverse: 0x5555555555555556,
+            log: 0x67cc8fb2fe612fca,
+        },
+        9 => Row {
+            inverse: 0x51eb851eb851eb86,
+            log: 0x723fdf1e6a6886b0,
+        },
+        10 => Row {
+            inverse: 0x4ec4ec4ec4ec4ec5,
+            log: 0x7c4a3d7ebc1bb2cd,
+        },
+        11 => Row {
+            inverse: 0x4bda12f684bda130,
+            log: 0x85f39721295415b4,
+        },
+        12 => Row {
+            inverse: 0x4924924924924925,
+            log: 0x8f42faf3820681ef,
+        },
+        13 => Row {
+            inverse: 0x469ee58469ee5847,
+            log: 0x983eb99a7885f0fd,
+        },
+        14 => Row {
+            inverse: 0x4444444444444445,
+            log: 0xa0ec7f4233957323,
+        },
+        15..=0xffff_ffff_ffff_ffff => Row {
+            inverse: 0x4210842108421085,
+            log: 0xa9516932de2d5773,
+        },
     }
 }
 
@@ -94,8 +124,10 @@ fn guess(m: u64) -> u64
     ensures { λ r. ⌜ (r ≡ guessOf m) × (r < limit) ⌝ }
 {
     let j = (m >> 58) & 15;
-    let c = mulhi(2 * m, inverse(j));
-    let g = ln_tab(j) + near_one((c << 2) & 0xfff_ffff_ffff_ffff);
+    let row = entry(j);
+    let log = row.log;
+    let c = mulhi(2 * m, row.inverse);
+    let g = log + near_one((c << 2) & 0xfff_ffff_ffff_ffff);
     if g < 12786308645202657280 {
         g
     } else {
@@ -162,20 +194,17 @@ pub enum Log {
     Below(u64),
 }
 
-// The logarithm of m / 2^62 * 2^n.
-fn log_above(m: u64, n: u64) -> Log
-    requires { ⌜ (m < 2 ^ 63) × (n ≤ 1100) ⌝ }
-    ensures { λ r. ⌜ r ≡ logAbove m n ⌝ }
+// The logarithm of m / 2^62 * 2^n, or of m / 2^62 / 2^n where it is below 1.
+fn log_scaled(m: u64, n: u64, below: bool) -> Log
+    requires { ⌜ (m < 2 ^ 63) × (n ≤ 1100) × (below ≡ true → 0 < n) ⌝ }
+    ensures { λ r. ⌜ r ≡ cond below (logBelow m n) (logAbove m n) ⌝ }
 {
-    Log::Above(twos(n) + ln_mant(m) / 2048)
-}
-
-// The logarithm of m / 2^62 / 2^n.
-fn log_below(m: u64, n: u64) -> Log
-    requires { ⌜ (m < 2 ^ 63) × (0 < n) × (n ≤ 1100) ⌝ }
-    ensures { λ r. ⌜ r ≡ logBelow m n ⌝ }
-{
-    Log::Below(twos(n) - ln_mant(m) / 2048)
+    let t = twos(n);
+    let l = ln_mant(m) / 2048;
+    if below {
+        return Log::Below(t - l);
+    }
+    Log::Above(t + l)
 }
 
 // The logarithm of the positive finite number whose pattern is bits.
@@ -185,14 +214,11 @@ fn log_bits(bits: u64) -> Log
 {
     if bits < 0x10_0000_0000_0000 {
         let z = u64::leading_zeros(bits) as u64;
-        return log_below(bits << (z - 1), 1011 + z);
+        return log_scaled(bits << (z - 1), 1011 + z, true);
     }
     let m = ((bits & 0xf_ffff_ffff_ffff) + 0x10_0000_0000_0000) * 1024;
     let field = bits >> 52;
-    if field < 1023 {
-        return log_below(m, 1023 - field);
-    }
-    log_above(m, field - 1023)
+    log_scaled(m, distance(field, 1023), field < 1023)
 }
 
 // The logarithm of a base.

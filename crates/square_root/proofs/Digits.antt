@@ -118,6 +118,35 @@ normal b k =
     sum : (b : ℕ) → 2 ^ 52 ≤ b → 1073 + b / 2 ^ 52 ≡ b / 2 ^ 52 - 1 + 1074
     sum b h = omega arith
 
+-- d * 2 ^ e / 2 ^ 2148 is the number of the pattern b, and d has 53 digits
+pub record Parts (b d e : ℕ) : Type 0 where
+  pub low : 2 ^ 52 ≤ d
+  pub high : d < 2 ^ 53
+  pub from : 104 ≤ e
+  pub to : e ≤ 3200
+  pub is : d * 2 ^ e ≡ unitsOf b * 2 ^ 1074
+
+pub parts-subnormal : (b : ℕ) → 0 < b → b < 2 ^ 52 → Parts b ((b * 2 ^ (leadingZeros 64 b - 11)) % 2 ^ 64) (1085 - leadingZeros 64 b)
+parts-subnormal b h k =
+    let l = lead b h k in
+    let z = leadingZeros 64 b in
+    record {
+      low = subst (λ (x : ℕ). 2 ^ 52 ≤ x) (sym (l .same)) (l .from);
+      high = subst (λ (x : ℕ). x < 2 ^ 53) (sym (l .same)) (l .below);
+      from = least z (l .high);
+      to = most z;
+      is = subnormal b z k l;
+    }
+  where
+    least : (z : ℕ) → z ≤ 63 → 104 ≤ 1085 - z
+    least z h = omega arith
+
+    most : (z : ℕ) → 1085 - z ≤ 3200
+    most z = omega arith
+
+pub parts-normal : (b : ℕ) → 2 ^ 52 ≤ b → b < 2047 * 2 ^ 52 → Parts b (b % 2 ^ 52 + 2 ^ 52) (1073 + b / 2 ^ 52)
+parts-normal b h k = record { low = omega arith; high = omega arith; from = omega arith; to = omega arith; is = normal b h }
+
 -- ---- the root by the units
 same : (n d u : ℕ) → 0 < d → n * 2 ^ 1074 ≡ u * d → n * 2 ^ 2148 / d ≡ u * 2 ^ 1074
 same n d u h e =
@@ -152,17 +181,9 @@ root-of-pattern b h k = root-of-units (ofBits binary64 b) (unitsOf b) (units-pos
 pub scaled-of-pattern : (b : ℕ) → 0 < b → b < 2047 * 2 ^ 52 → (N : ℕ) × (k : ℕ) × Scaled (unitsOf b * 2 ^ 1074) N k
 scaled-of-pattern b h t = either (decLe (2 ^ 52) b)
   where
-    low : (z : ℕ) → z ≤ 63 → 104 ≤ 1085 - z
-    low z h = omega arith
-
-    high : (z : ℕ) → 1085 - z ≤ 3200
-    high z = omega arith
+    of-parts : (d e : ℕ) → Parts b d e → (N : ℕ) × (k : ℕ) × Scaled (unitsOf b * 2 ^ 1074) N k
+    of-parts d e p = subst (λ (A : ℕ). (N : ℕ) × (k : ℕ) × Scaled A N k) (p .is) (_, _, scaled d (p .low) (p .high) e (p .from) (p .to))
 
     either : Dec (2 ^ 52 ≤ b) → (N : ℕ) × (k : ℕ) × Scaled (unitsOf b * 2 ^ 1074) N k
-    either (yes g) = subst (λ (A : ℕ). (N : ℕ) × (k : ℕ) × Scaled A N k) (normal b g) (_, _, scaled (b % 2 ^ 52 + 2 ^ 52) (omega arith) (omega arith) (1073 + b / 2 ^ 52) (omega arith) (omega arith))
-    either (no f) =
-        let g : b < 2 ^ 52 = lt-of-not-le f in
-        let z = leadingZeros 64 b in
-        let l = lead b h g in
-        subst (λ (A : ℕ). (N : ℕ) × (k : ℕ) × Scaled A N k) (ap (λ (x : ℕ). x * 2 ^ (1085 - z)) (sym (l .same)) ∙ subnormal b z g l)
-        (_, _, scaled (b * 2 ^ (z - 11)) (l .from) (l .below) (1085 - z) (low z (l .high)) (high z))
+    either (yes g) = of-parts _ _ (parts-normal b g t)
+    either (no f) = of-parts _ _ (parts-subnormal b h (lt-of-not-le f))

@@ -1,7 +1,7 @@
 -- The whole root and the nearest one: the bounds that each has, and that the bounds fix it.
 use mathlib.Core.Path.{_≡_, sym, ap, _∙_, subst}
 use mathlib.Core.Bool.{Bool, cond}
-use Prim.Native.Nat.{ℕ, zero, suc, _+_, _-_, _*_, _/_, _^_, _≤_, _<_}
+use Prim.Native.Nat.{ℕ, zero, suc, _+_, _-_, _*_, _/_, _%_, _^_, _≤_, _<_}
 use native.Mathlib.Nat.{le-refl, le-trans, le-of-eq, le-antisymm, lt-of-le-of-lt, lt-of-lt-of-le, lt-of-not-le, not-le-of-lt, mul-le-mul, pow-zero, pow-succ'}
 use native.Mathlib.Decide.{decLe}
 use native.Mathlib.Omega.{arith}
@@ -150,3 +150,26 @@ is-nearest n q N Q a b = nearest-unique (record { low = low (q - 1) q (pred-add 
   where
     low : (p q : ℕ) → q ≡ p + 1 → p * q < n → q * q < n + q
     low p q e a = omega (arith, ap (λ (t : ℕ). t * q) e)
+
+-- ---- the nearest root from a square below n and what is left of n
+pub rest-is : (n H L : ℕ) → n / 2 ^ 64 ≡ H → n % 2 ^ 64 ≤ L → H * 2 ^ 64 + L ≡ n + (L - n % 2 ^ 64)
+rest-is n H L e h = omega arith
+
+pub nearest-from-below : (n s d : ℕ) → 0 < n → n ≡ s * s + d → d ≤ s → s ≡ nearestRoot n
+nearest-from-below n s d N e h = nearest-unique (record { low = low s e h; high = omega arith }) (nearest-root n N)
+  where
+    low : (s : ℕ) → n ≡ s * s + d → d ≤ s → s * s < n + s
+    low zero e h = omega arith
+    low (suc s) e h = omega arith
+
+pub nearest-above : (n s d : ℕ) → 0 < n → n ≡ s * s + d → s < d → d ≤ 3 * s → s + 1 ≡ nearestRoot n
+nearest-above n s d N e h k = nearest-unique (record { low = omega arith; high = omega arith }) (nearest-root n N)
+
+pub nearest-of-words : (H L : ℕ) → 0 < H → H < 2 ^ 42 → L < 2 ^ 64 → nearestRoot (H * 2 ^ 64 + L) ≤ 2 ^ 53
+nearest-of-words H L h k l = let n = H * 2 ^ 64 + L in nearest-hi n (nearestRoot n) (nearest-root n (positive H L h)) (number-lt H L k l)
+  where
+    positive : (H L : ℕ) → 0 < H → 0 < H * 2 ^ 64 + L
+    positive H L h = omega arith
+
+    number-lt : (H L : ℕ) → H < 2 ^ 42 → L < 2 ^ 64 → H * 2 ^ 64 + L < 2 ^ 106
+    number-lt H L h k = omega arith

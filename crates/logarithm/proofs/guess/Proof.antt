@@ -34,25 +34,22 @@ under x h = omega arith
 over : (x : ℕ) → limit ≤ x → limit - 1 ≤ x
 over x h = omega arith
 
+entry-requires : tie.Need-entry-requires
+entry-requires c κs = mask-lt (c .args .m / 2 ^ 58) 4
+
 mul-mulhi : tie.Need-mul-mulhi
 mul-mulhi c = search needs
-
-inverse-requires : tie.Need-inverse-requires
-inverse-requires c κs = mask-lt (c .args .m / 2 ^ 58) 4
 
 mulhi-requires : tie.Need-mulhi-requires
 mulhi-requires c κs = search needs
 
-ln-tab-requires : tie.Need-ln-tab-requires
-ln-tab-requires c κs = mask-lt (c .before .before .args .m / 2 ^ 58) 4
-
 near-one-requires : tie.Need-near-one-requires
-near-one-requires c κs = mask-lt (c .before .mulhi .result * 4 % 2 ^ 64) 60
+near-one-requires c κs = mask-lt (c .mulhi .result * 4 % 2 ^ 64) 60
 
 add-g : tie.Need-add-g
 add-g c =
-    let m = c .before .before .before .before .args .m in
-    fits-bits 64 tt (sum-lt _ _ (subst (λ (t : ℕ). t ≤ 0xa9516932de2d5773) (sym (c .before .ln-tab .ensures)) (entry-le (bitAnd (m / 2 ^ 58) 15) (mask-lt (m / 2 ^ 58) 4))) (c .near-one .ensures .1))
+    let m = c .before .before .before .args .m in
+    fits-bits 64 tt (sum-lt _ _ (subst (λ (t : ℕ). t ≤ 0xa9516932de2d5773) (sym (c .before .before .entry .ensures .1)) (entry-le (bitAnd (m / 2 ^ 58) 15) (mask-lt (m / 2 ^ 58) 4))) (c .near-one .ensures .1))
 
 sum-is : (m : ℕ) {v d t r : ℕ} → v ≡ inverseOf (bitAnd (m / 2 ^ 58) 15) → d ≡ 2 * m * v / 2 ^ 64 → t ≡ getD lnTable (bitAnd (m / 2 ^ 58) 15) 0 → r ≡ nearOne (bitAnd (d * 4 % 2 ^ 64) 0xfff_ffff_ffff_ffff)
     → t + r ≡ getD lnTable (m / 2 ^ 58 % 16) 0 + nearOne (4 * hi (2 * m) (inverseOf (m / 2 ^ 58 % 16)) % 2 ^ 60)
@@ -62,17 +59,17 @@ returns : tie.Need-returns
 unfolding guessOf
 returns c =
     let d = c .before in
-    let m = d .before .before .before .before .args .m in
-    let e = sum-is m (d .before .before .before .inverse .ensures) (d .before .before .mulhi .ensures) (d .before .ln-tab .ensures) (d .near-one .ensures .0) in
+    let m = d .before .before .before .args .m in
+    let e = sum-is m (d .before .before .entry .ensures .0) (d .before .mulhi .ensures) (d .before .before .entry .ensures .1) (d .near-one .ensures .0) in
     (e ∙ sym (min-eq-left (under _ (subst (λ (x : ℕ). x < limit) e (c .if1 .taken)))), c .if1 .taken)
 
 returns-2 : tie.Need-returns-2
 unfolding guessOf
 returns-2 c =
     let d = c .before in
-    let m = d .before .before .before .before .args .m in
-    let e = sum-is m (d .before .before .before .inverse .ensures) (d .before .before .mulhi .ensures) (d .before .ln-tab .ensures) (d .near-one .ensures .0) in
+    let m = d .before .before .before .args .m in
+    let e = sum-is m (d .before .before .entry .ensures .0) (d .before .mulhi .ensures) (d .before .before .entry .ensures .1) (d .near-one .ensures .0) in
     (sym (min-eq-right (over _ (subst (λ (x : ℕ). limit ≤ x) e (c .if1 .left)))), lit< tt)
 
 pub guess-spec : {M : Type 1} → statement M
-guess-spec = tie.close (tie.spec mul-mulhi inverse-requires mulhi-requires ln-tab-requires near-one-requires add-g returns returns-2)
+guess-spec = tie.close (tie.spec entry-requires mul-mulhi mulhi-requires near-one-requires add-g returns returns-2)

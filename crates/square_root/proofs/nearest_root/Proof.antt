@@ -1,108 +1,86 @@
--- `square_root::nearest_root` meets its contract. The first loop goes up until N ≤ q * (q + 1), the second comes down until (q - 1) * q < N.
-use mathlib.Core.Path.{sym, _∙_}
-use mathlib.Core.Logic.{inl, inr}
-use Prim.Native.Nat.{ℕ, _+_, _-_, _*_, _^_, _<_, _≤_}
-use native.Mathlib.Omega.{arith}
+-- `square_root::nearest_root` meets its contract.
 use borrow.Author.Needs.{needs}
-use borrow.Author.Tests.{ltb-true, ltb-false, not-true, not-false}
-use Rattle.square_root.proofs.WholeRoot.{below-cap, above-zero, step-down, is-nearest}
+use mathlib.Core.Path.{_≡_, sym, ap, _∙_, subst}
+use Prim.Native.Nat.{ℕ, _+_, _-_, _*_, _/_, _%_, _^_, _<_, _≤_}
+use native.Mathlib.Omega.{arith}
+use mir.Facts.{fits-bits}
+use Rattle.square_root.specs.SquareRoot.{nearestRoot}
+use Rattle.square_root.proofs.WholeRoot.{rest-is, nearest-from-below, nearest-above, nearest-of-words}
 use Rattle.square_root.proofs.nearest_root.Statement.{statement}
 use Rattle.square_root.proofs.nearest_root.Tie as tie
-use Rattle.square_root.proofs.nearest_root.Reads as reads
-use Rattle.square_root.proofs.nearest_root.Lts as lts
-use Rattle.square_root.proofs.product_less.Reads as product-less-reads
 
-abbrev Inv-loop : tie.InvT-loop
-Inv-loop guess hi lo q₀ q = q ≤ 2 ^ 53
+mullo-requires : tie.Need-mullo-requires
+mullo-requires c κs = search needs
 
-abbrev μ-loop : tie.MeasureT-loop
-μ-loop guess hi lo q₀ q = 2 ^ 53 - q
+mulhi-requires : tie.Need-mulhi-requires
+mulhi-requires c κs = search needs
 
-abbrev Inv-loop2 : tie.InvT-loop2
-Inv-loop2 guess hi lo q₀ q = (1 ≤ q) × (q ≤ 2 ^ 53) × (hi * 2 ^ 64 + lo ≤ q * (q + 1))
+mul-if3 : tie.Need-mul-if3
+mul-if3 c = search needs
 
-abbrev μ-loop2 : tie.MeasureT-loop2
-μ-loop2 guess hi lo q₀ q = q
+positive : (H L : ℕ) → 0 < H → 0 < H * 2 ^ 64 + L
+positive H L h = omega arith
 
-number-pos : (hi lo : ℕ) → 0 < hi → 0 < hi * 2 ^ 64 + lo
-number-pos hi lo h = omega arith
+-- the words h and l of s * s, beside those of the number
+record Words (s H L h l : ℕ) : Type 0 where
+  low : 0 < H
+  high : H < 2 ^ 42
+  fits : L < 2 ^ 64
+  upper : h ≡ s * s / 2 ^ 64
+  lower : l ≡ s * s % 2 ^ 64
+  same : h ≡ H
+  under : l ≤ L
 
-loop-holds : tie.Need-loop-holds Inv-loop μ-loop Inv-loop2 μ-loop2
-loop-holds c = elim (c .if1 .came) [
-  | inl w ↦ omega arith
-  | inr w ↦ omega arith
-]
+module _ {s H L h l : ℕ} (w : Words s H L h l) where
+  left : H * 2 ^ 64 + L ≡ s * s + (L - l)
+  left = rest-is (s * s) H L (sym (w .upper) ∙ w .same) (subst (λ (z : ℕ). z ≤ L) (w .lower) (w .under)) ∙ ap (λ (z : ℕ). s * s + (L - z)) (sym (w .lower))
 
-add-product-less : tie.Need-add-product-less Inv-loop μ-loop Inv-loop2 μ-loop2
-add-product-less c = omega arith
+  in-range : (q : ℕ) → q ≡ nearestRoot (H * 2 ^ 64 + L) → (q ≡ nearestRoot (H * 2 ^ 64 + L)) × (q ≤ 2 ^ 53)
+  in-range q r = (r, subst (λ (z : ℕ). z ≤ 2 ^ 53) (sym r) (nearest-of-words H L (w .low) (w .high) (w .fits)))
 
-product-less-requires : tie.Need-product-less-requires Inv-loop μ-loop Inv-loop2 μ-loop2
-product-less-requires c κs = search needs
+  at-root : L - l ≤ s → (s ≡ nearestRoot (H * 2 ^ 64 + L)) × (s ≤ 2 ^ 53)
+  at-root g = in-range s (nearest-from-below (H * 2 ^ 64 + L) s (L - l) (positive H L (w .low)) left g)
 
-add-q : tie.Need-add-q Inv-loop μ-loop Inv-loop2 μ-loop2
-add-q c = omega arith
+  above-root : s < L - l → L - l ≤ 3 * s → (s + 1 ≡ nearestRoot (H * 2 ^ 64 + L)) × (s + 1 ≤ 2 ^ 53)
+  above-root g j = in-range (s + 1) (nearest-above (H * 2 ^ 64 + L) s (L - l) (positive H L (w .low)) left g j)
 
--- in the first loop's body q is below 2 ^ 53
-below : (c : lts.After-row-known (product-less-reads.Asked, product-less-reads.Learnt) reads.Pre reads.Post Inv-loop μ-loop Inv-loop2 μ-loop2) → c .before .before .before .loop .q < 2 ^ 53
-below c =
-    let d = c .before .before .before .before .before in
-    below-cap _ _ _ (d .pre .1) (d .fits .lo .fits) (ltb-true _ _ (sym (c .before .before .product-less .ensures) ∙ c .before .if2 .taken))
-
-loop-less : tie.Need-loop-less Inv-loop μ-loop Inv-loop2 μ-loop2
-loop-less c = omega (arith, below c)
-
-loop-again : tie.Need-loop-again Inv-loop μ-loop Inv-loop2 μ-loop2
-loop-again c = omega (arith, below c)
-
-loop2-holds : tie.Need-loop2-holds Inv-loop μ-loop Inv-loop2 μ-loop2
-loop2-holds c =
-    let d = c .before .before .before .before in
-    let h = ltb-false _ _ (sym (c .before .product-less .ensures) ∙ c .if2 .left) in
-    (above-zero _ _ (number-pos _ _ (d .pre .0)) h, c .before .before .loop .inv, h)
-
-sub-product-less : tie.Need-sub-product-less Inv-loop μ-loop Inv-loop2 μ-loop2
-sub-product-less c = omega arith
-
-product-less-requires-2 : tie.Need-product-less-requires-2 Inv-loop μ-loop Inv-loop2 μ-loop2
-product-less-requires-2 c κs = search needs
-
-sub-q : tie.Need-sub-q Inv-loop μ-loop Inv-loop2 μ-loop2
-sub-q c = omega arith
-
-loop2-less : tie.Need-loop2-less Inv-loop μ-loop Inv-loop2 μ-loop2
-loop2-less c = omega arith
-
-loop2-again : tie.Need-loop2-again Inv-loop μ-loop Inv-loop2 μ-loop2
-loop2-again c =
-    let d = c .before .before .before .before .before .before .before .before in
-    let l = c .before .before .before .loop2 in
-    let s = step-down _ _ (number-pos _ _ (d .pre .0)) (l .inv .0) (ltb-false _ _ (sym (c .before .before .product-less2 .ensures) ∙ not-true _ (c .before .if3 .taken))) in
-    (s .0, omega arith, s .1)
-
-returns : tie.Need-returns Inv-loop μ-loop Inv-loop2 μ-loop2
+returns : tie.Need-returns
 returns c =
-    let d = c .before .before .before .before .before .before .before in
-    let l = c .before .before .loop2 in
-    (is-nearest _ _ (number-pos _ _ (d .pre .0)) (l .inv .0) (ltb-true _ _ (sym (c .before .product-less2 .ensures) ∙ not-false _ (c .if3 .left))) (l .inv .2), l .inv .1)
+    let d = c .before .before .before .before .before .before in
+    at-root (record {
+      low = d .pre .1;
+      high = d .pre .2;
+      fits = d .fits .lo .fits;
+      upper = c .before .before .before .before .mulhi .ensures;
+      lower = c .before .before .before .before .before .mullo .ensures;
+      same = c .before .before .before .if1 .taken;
+      under = c .before .before .if2 .taken;
+    }) (c .if4 .taken)
+
+add-result : tie.Need-add-result
+add-result c = fits-bits 64 tt (room _ (c .before .before .before .before .before .before .pre .0))
+  where
+    room : (s : ℕ) → s < 2 ^ 58 → s + 1 < 2 ^ 64
+    room s h = omega arith
+
+returns-2 : tie.Need-returns-2
+returns-2 c =
+    let d = c .before .before .before .before .before .before in
+    above-root (record {
+      low = d .pre .1;
+      high = d .pre .2;
+      fits = d .fits .lo .fits;
+      upper = c .before .before .before .before .mulhi .ensures;
+      lower = c .before .before .before .before .before .mullo .ensures;
+      same = c .before .before .before .if1 .taken;
+      under = c .before .before .if2 .taken;
+    }) (c .if4 .left) (c .before .if3 .taken)
+
+searched-requires : tie.Need-searched-requires
+searched-requires c κs = search needs
+
+returns-3 : tie.Need-returns-3
+returns-3 c = search needs
 
 pub nearest-root-spec : {M : Type 1} → statement M
-nearest-root-spec =
-    tie.close
-    (tie.spec
-    Inv-loop
-    μ-loop
-    Inv-loop2
-    μ-loop2
-    loop-holds
-    add-product-less
-    product-less-requires
-    add-q
-    loop-less
-    loop-again
-    loop2-holds
-    sub-product-less
-    product-less-requires-2
-    sub-q
-    loop2-less
-    loop2-again
-    returns)
+nearest-root-spec = tie.close (tie.spec mullo-requires mulhi-requires mul-if3 returns add-result returns-2 searched-requires returns-3)
