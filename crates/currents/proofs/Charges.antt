@@ -22,8 +22,6 @@ use Rattle.device.specs.declared.Geometry.{Geometry}
 use Rattle.device.specs.declared.Given.{Given}
 use Rattle.device.specs.declared.Histories.{Histories}
 use Rattle.device.specs.declared.Mosfet1.{Mosfet1}
-use Rattle.device.specs.declared.NodeId.{NodeId}
-use Rattle.device.specs.declared.Terminals.{Terminals}
 use Rattle.reactive.specs.Charge.{hasStepOf}
 use Rattle.bias.specs.declared.Answer.{Answer}
 use Rattle.bias.specs.declared.Voltages.{Voltages}
@@ -47,7 +45,7 @@ use Rattle.evaluation_sizes.proofs.Limiter.{difference-atMost}
 use Rattle.call_lists.specs.LastEvaluation.{EvaluationMade, voltagesAt, answerAt, chargesAt}
 use Rattle.charge_current.specs.ChargeCurrent.{exactTerms, ChargeReturns, MethodSizes, HoldsBefore, IfHeld, RecordedSize, ChargeSizes, OnlyZeros}
 use Rattle.charge_current.proofs.Returns.{charge-returns}
-use Rattle.currents.specs.Branches.{Branch, gs, gd, gb, bs, bd, voltageOf, capacitanceOf, chargeOf, pastOf, historyLoaded, loadedBranch}
+use Rattle.currents.specs.Branches.{Branch, gs, gd, gb, bs, bd, posOf, negOf, voltageOf, capacitanceOf, chargeOf, pastOf, historyLoaded, loadedBranch}
 
 -- ---- row 11 let alpha pass
 not-done : (n : ℕ) → Refused n ≡ Done → ⊥
@@ -82,20 +80,6 @@ method-sizes (Trapezoid h) alpha (arguments.trapezoid H) e = H
 method-sizes (Gear h h1) alpha (arguments.gear H H1) e = (H, H1)
 
 -- ---- a branch of the load, over its name
-unfoldable pos-of : Branch → Terminals → NodeId
-pos-of gs t = t .gate
-pos-of gd t = t .gate
-pos-of gb t = t .gate
-pos-of bs t = t .bulk
-pos-of bd t = t .bulk
-
-unfoldable neg-of : Branch → Terminals → NodeId
-neg-of gs t = t .source
-neg-of gd t = t .drain
-neg-of gb t = t .bulk
-neg-of bs t = t .source
-neg-of bd t = t .drain
-
 -- the Jacobian's term at the branch's voltage
 unfoldable pub term-of : Branch → device.Charges → Float
 term-of gs c = c .«q_gs_eval»
@@ -104,8 +88,8 @@ term-of gb c = c .«q_gb_eval»
 term-of bs c = c .«cbs_eval» ⊗ c .«vbs_eval»
 term-of bd c = c .«cbd_eval» ⊗ c .«vbd_eval»
 
-branch-is : (b : Branch) (d : Mosfet1) (alpha : Float) → loadedBranch b (chargeBranchesOf d alpha) ≡ branchOf (pos-of b (d .terminals)) (neg-of b (d .terminals)) (capacitanceOf b (d .charges)) (term-of b (d .charges)) (chargeOf b (d .charges)) (historyLoaded b (d .geometry)) (d .disc) alpha (pastOf b (d .histories))
-unfolding loadedBranch chargeBranchesOf junctionBranchOf pos-of neg-of term-of capacitanceOf chargeOf historyLoaded pastOf
+branch-is : (b : Branch) (d : Mosfet1) (alpha : Float) → loadedBranch b (chargeBranchesOf d alpha) ≡ branchOf (posOf b (d .terminals)) (negOf b (d .terminals)) (capacitanceOf b (d .charges)) (term-of b (d .charges)) (chargeOf b (d .charges)) (historyLoaded b (d .geometry)) (d .disc) alpha (pastOf b (d .histories))
+unfolding loadedBranch chargeBranchesOf junctionBranchOf posOf negOf term-of capacitanceOf chargeOf historyLoaded pastOf
 branch-is gs d alpha = refl
 branch-is gd d alpha = refl
 branch-is gb d alpha = refl
@@ -180,7 +164,7 @@ module _ (d : Mosfet1) (alpha : Float) (S : StateSizes d) (row : alphaOutside (d
       let past = past-size b (S .histories) in
       let loads = historyLoaded b (d .geometry) in
       subst (λ (z : ChargeBranch). ChargeReturns z (voltageOf b v) (exactTerms (d .disc) alpha (chargeOf b (d .charges)) (pastOf b (d .histories)))) (sym (branch-is b d alpha))
-      (charge-returns (pos-of b (d .terminals)) (neg-of b (d .terminals)) (d .disc) alpha (capacitanceOf b (d .charges)) (voltageOf b v) (chargeOf b (d .charges)) (pastOf b (d .histories)) loads term method
+      (charge-returns (posOf b (d .terminals)) (negOf b (d .terminals)) (d .disc) alpha (capacitanceOf b (d .charges)) (voltageOf b v) (chargeOf b (d .charges)) (pastOf b (d .histories)) loads term method
       (λ t. record {
         capacitance = capacitance-size b (S .charges);
         voltage = voltage-size b W;

@@ -36,6 +36,7 @@ use Rattle.charge_current.specs.ChargeCurrent.{ChargeReturns, RecordedSize, Hol
 use Rattle.currents.specs.Loaded.{JunctionStamp, loadedChannel, loadedSourceJunction, loadedDrainJunction}
 use Rattle.currents.specs.Branches.{Branch, voltageOf, capacitanceOf, chargeOf, pastOf, historyLoaded, loadedBranch}
 use Rattle.currents.specs.Currents.{channelAt, polarityAt, temperatureAt, sourceVoltage, drainVoltage, sourceSaturation, drainSaturation, recounted, Premises, BranchesReturn, CurrentsReturn, LoadHolds, EveryLoadHolds}
+use Rattle.currents.proofs.Places.{loaded-places}
 use Rattle.currents.proofs.Stamps.{channel-is-loaded, evaluatedSource, evaluatedDrain, source-is-loaded, drain-is-loaded}
 use Rattle.currents.proofs.Evaluations.{channel-sizes, source-sizes, drain-sizes}
 use Rattle.currents.proofs.Charges.{alpha-passed, term-of, evaluated-term, branch-returns}
@@ -117,6 +118,7 @@ pub currents-return : EveryLoadHolds
 currents-return d F calls fs kind P rhs values rhs' values' loaded =
     let done = sym (loaded .answer) in
     record {
+      places = loaded-places (run calls d) kind;
       evaluated = load-after-an-evaluation calls d kind P rhs values F (done-accepted d F calls fs kind P rhs values done);
       returns = λ e kept last premises. record {
         channel = channel d F calls fs e kept last kind premises;

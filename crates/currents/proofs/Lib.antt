@@ -1,3 +1,4 @@
+pub mod Places
 pub mod Stamps
 pub mod Evaluations
 pub mod Charges

@@ -6,6 +6,8 @@ use Rattle.device.specs.declared.ChargeHistory.{ChargeHistory}
 use Rattle.device.specs.declared.Charges as device
 use Rattle.device.specs.declared.Geometry.{Geometry}
 use Rattle.device.specs.declared.Histories.{Histories}
+use Rattle.device.specs.declared.NodeId.{NodeId}
+use Rattle.device.specs.declared.Terminals.{Terminals}
 use Rattle.bias.specs.declared.Voltages.{Voltages}
 use Rattle.stamps.specs.Stamps.{hasJunctionOf}
 use Rattle.stamps.specs.declared.ChargeBranch.{ChargeBranch}
@@ -19,7 +21,22 @@ pub data Branch : Type 0 where
   bs : Branch
   bd : Branch
 
--- "v the unflipped rounded node difference"
+-- the nodes that a branch lies between
+unfoldable pub posOf : Branch → Terminals → NodeId
+posOf gs t = t .gate
+posOf gd t = t .gate
+posOf gb t = t .gate
+posOf bs t = t .bulk
+posOf bd t = t .bulk
+
+unfoldable pub negOf : Branch → Terminals → NodeId
+negOf gs t = t .source
+negOf gd t = t .drain
+negOf gb t = t .bulk
+negOf bs t = t .source
+negOf bd t = t .drain
+
+-- "v the unflipped rounded node difference", from the first node to the second
 unfoldable pub voltageOf : Branch → Voltages → Float
 voltageOf gs v = v .vg ⊖ v .vs
 voltageOf gd v = v .vg ⊖ v .vd
@@ -27,6 +44,7 @@ voltageOf gb v = v .vg ⊖ v .vb
 voltageOf bs v = v .vb ⊖ v .vs
 voltageOf bd v = v .vb ⊖ v .vd
 
+-- what a transient evaluation leaves of it: the capacitance, and the charge
 unfoldable pub capacitanceOf : Branch → device.Charges → Float
 capacitanceOf gs c = c .«cgs_eval»
 capacitanceOf gd c = c .«cgd_eval»
@@ -41,6 +59,7 @@ chargeOf gb c = c .«q_gb_eval»
 chargeOf bs c = c .«q_bs_eval»
 chargeOf bd c = c .«q_bd_eval»
 
+-- its past in a device's histories or in the recount's
 unfoldable pub pastOf : Branch → Histories → ChargeHistory
 pastOf gs h = h .«gs_hist»
 pastOf gd h = h .«gd_hist»
@@ -56,7 +75,7 @@ historyLoaded gb g = true
 historyLoaded bs g = hasJunctionOf (g .«cbs_bot») (g .«cbs_sw»)
 historyLoaded bd g = hasJunctionOf (g .«cbd_bot») (g .«cbd_sw»)
 
--- a load's branch, with what it adds to the matrix and to the right-hand side
+-- the branch as a load has it: the conductance and the history current, and whether each is loaded
 unfoldable pub loadedBranch : Branch → ChargeBranches → ChargeBranch
 loadedBranch gs b = b .gs
 loadedBranch gd b = b .gd

@@ -23,10 +23,12 @@ use Rattle.channel_current.specs.ChannelCurrent.{ChannelInputs, ChannelReturns}
 use Rattle.junction_current.specs.JunctionCurrent.{WithinThermalVoltages, JunctionReturns}
 use Rattle.charge_current.specs.ChargeCurrent.{RecordedSize, HoldsBefore, OnlyZeros, ChargeReturns, exactTerms}
 use Rattle.currents.specs.Loaded.{JunctionStamp, loadedChannel, loadedSourceJunction, loadedDrainJunction}
+use Rattle.currents.specs.Places.{LoadedPlaces}
 use Rattle.currents.specs.Branches.{Branch, voltageOf, capacitanceOf, chargeOf, pastOf, historyLoaded, loadedBranch}
 
 -- ---- the last accepted evaluation, "Parameters are the scaled ones in force at that evaluation"
--- "Channel and junction voltages are that evaluation's, flipped"; vgs and vds are the kept ones, vth the answered one
+-- "Channel and junction voltages are that evaluation's, flipped"; vgs and vds are the kept ones, vth the answered one. A commit after the
+-- evaluation changes what the device keeps, and none of these. The claim does not read the slope: the evaluated gmbs is made from it.
 unfoldable pub channelAt : EvaluationMade → ChannelInputs
 channelAt e =
     let d = e .device in
@@ -64,7 +66,7 @@ sourceSaturation e = e .device .geometry .«isat_bs» ⊗ e .device .scaled .«i
 unfoldable pub drainSaturation : EvaluationMade → Float
 drainSaturation e = e .device .geometry .«isat_bd» ⊗ e .device .scaled .«isat_t_factor»
 
--- ---- premises, at a load of the device that the calls leave on d
+-- ---- premises, at a load of the device that the calls leave on d; e is their last accepted evaluation
 -- "Earlier charges and recorded currents above are its own": the recount's
 unfoldable pub recounted : List Call → Mosfet1 → Branch → ChargeHistory
 recounted calls d b = pastOf b (recount calls d)
@@ -73,7 +75,8 @@ abbrev pub IsTransient : LoadKind → Type 0
 IsTransient DirectCurrent = ⊥
 IsTransient (Transient alpha) = Unit {0}
 
--- those of the charge branches are needed where the load is transient
+-- The last three speak of the charge branches and are asked where the load is transient. Recorded currents are bounded at the load, not at
+-- every commit before it.
 pub record Premises (calls : List Call) (d : Mosfet1) (e : EvaluationMade) (kind : LoadKind) : Type 0 where
   -- "the last evaluation had the transient flag"
   pub transient : e .transient ≡ true
@@ -95,22 +98,26 @@ BranchesReturn calls d e DirectCurrent = Unit {0}
 BranchesReturn calls d e (Transient alpha) =
     (b : Branch) → ChargeReturns (loadedBranch b (branchesOf (run calls d) (Transient alpha))) (voltageOf b (voltagesAt e)) (exactTerms (e .conditions .method) alpha (chargeOf b (chargesAt e)) (recounted calls d b))
 
--- the loaded values, multiplied out exactly, return the currents
+-- the loaded values, multiplied out exactly at the voltages of e, return its currents: each claim is finite values and "within 2^-40 of each
+-- branch's scale plus 2^-900 A"
 pub record CurrentsReturn (calls : List Call) (d : Mosfet1) (e : EvaluationMade) (kind : LoadKind) : Type 0 where
   pub channel : ChannelReturns (channelAt e) (loadedChannel (run calls d) kind)
   pub source-junction : JunctionReturns (loadedSourceJunction (run calls d) kind .conductance) (loadedSourceJunction (run calls d) kind .offset) (sourceSaturation e) (polarityAt e) (sourceVoltage e) (temperatureAt e) (e .conditions .gmin)
   pub drain-junction : JunctionReturns (loadedDrainJunction (run calls d) kind .conductance) (loadedDrainJunction (run calls d) kind .offset) (drainSaturation e) (polarityAt e) (drainVoltage e) (temperatureAt e) (e .conditions .gmin)
   pub branches : BranchesReturn calls d e kind
 
--- of an accepted load, whatever the slices held: there was an accepted evaluation, the last one's currents come back, and the
--- contributions to each column and to the right-hand side sum to exactly zero and no other cell changes
+-- of an accepted load, whatever the slices held: its values stand where they are named, there was an accepted evaluation, the last one's
+-- currents come back under the premises, and with no premise the contributions to each column and to the right-hand side sum to exactly
+-- zero and no other cell changes
 pub record LoadHolds (calls : List Call) (d : Mosfet1) (kind : LoadKind) (P : Pattern) (rhs values rhs' values' : List Float) : Type 0 where
+  pub places : LoadedPlaces (run calls d) kind
   pub evaluated : (e : EvaluationMade) × (kept : Kept) × (lastEvaluation calls d ≡ made e kept)
   pub returns : (e : EvaluationMade) (kept : Kept) → lastEvaluation calls d ≡ made e kept → Premises calls d e kind → CurrentsReturn calls d e kind
   pub cancels : LoadCancels (run calls d) kind P rhs values rhs' values'
 
 -- "This is a single claim about the list, not one for each call": any list of calls on a fresh device, refused ones among them, then a load
--- that is accepted. Numbers of the calls are f64s, as every caller's are.
+-- that is accepted. Numbers of the calls are f64s, NaNs and infinities among them, as every caller's are. Nothing is asked of the load's
+-- pattern, slices and alpha but that it is accepted.
 abbrev pub EveryLoadHolds : Type 0
 EveryLoadHolds =
     (d : Mosfet1) → Fresh d → (calls : List Call) → Every IsF64 calls

@@ -1,3 +1,4 @@
 pub mod Loaded
 pub mod Branches
+pub mod Places
 pub mod Currents

@@ -1,0 +1,5 @@
+pub mod Computing
+pub mod Steps
+pub mod Run
+pub mod Load
+pub mod Example

@@ -1,0 +1,3 @@
+pub mod Example
+pub mod Trace
+pub mod Shown
