@@ -1,0 +1,2 @@
+pub mod Devices
+pub mod Tags

@@ -1,0 +1,347 @@
+// The device that a record stands for, and the test that it stands for one.
+use device::Card;
+use device::ChargeHistory;
+use device::Charges;
+use device::Discretisation;
+use device::Geometry;
+use device::Given;
+use device::Histories;
+use device::Mosfet1;
+use device::NodeId;
+use device::OperatingPoint;
+use device::Scaled;
+use device::Stage;
+use device::Terminals;
+use record::CardRecord;
+use record::ChargesRecord;
+use record::DeviceRecord;
+use record::GeometryRecord;
+use record::GivenRecord;
+use record::HistoriesRecord;
+use record::HistoryRecord;
+use record::MethodRecord;
+use record::NodeRecord;
+use record::PointRecord;
+use record::ScaledRecord;
+use record::TerminalsRecord;
+use temperature::Kelvin;
+ghost use mathlib.Core.Path.{_≡_};
+ghost use Rattle.from_record.specs.Devices.{nodeFrom, givenFrom, methodFrom, stageFrom, cardFrom, geometryFrom, scaledFrom, terminalsFrom, pointFrom, chargesFrom, historyFrom, historiesFrom, deviceFrom};
+ghost use Rattle.from_record.specs.Tags.{goodTerminals, goodHistories, goodStage, goodTags};
+
+pub fn node_from(r: NodeRecord) -> NodeId
+    ensures { λ node. ⌜ node ≡ nodeFrom r ⌝ }
+{
+    let tag = r.tag;
+    let index = r.index;
+    if tag == 0 {
+        NodeId::Ground
+    } else {
+        NodeId::At(index)
+    }
+}
+
+fn given_from(r: GivenRecord) -> Given
+    ensures { λ given. ⌜ given ≡ givenFrom r ⌝ }
+{
+    let tag = r.tag;
+    let value = r.value;
+    if tag == 0 {
+        Given::Absent
+    } else {
+        Given::Value(value)
+    }
+}
+
+pub fn method_from(r: MethodRecord) -> Discretisation
+    ensures { λ method. ⌜ method ≡ methodFrom r ⌝ }
+{
+    let tag = r.tag;
+    let h = r.h;
+    let h_prev = r.h_prev;
+    if tag == 0 {
+        return Discretisation::None;
+    }
+    if tag == 1 {
+        return Discretisation::Euler(h);
+    }
+    if tag == 2 {
+        return Discretisation::Trapezoid(h);
+    }
+    Discretisation::Gear(h, h_prev)
+}
+
+fn stage_from(tag: u64) -> Stage
+    ensures { λ stage. ⌜ stage ≡ stageFrom tag ⌝ }
+{
+    if tag == 1 {
+        return Stage::Card;
+    }
+    if tag == 2 {
+        return Stage::Geometry;
+    }
+    if tag == 3 {
+        return Stage::Scaled;
+    }
+    if tag == 4 {
+        return Stage::Bound;
+    }
+    Stage::Evaluated
+}
+
+fn card_from(r: CardRecord) -> Card
+    ensures { λ card. ⌜ card ≡ cardFrom r ⌝ }
+{
+    let rd_card = r.rd_card;
+    let rs_card = r.rs_card;
+    Card {
+        vto: r.vto,
+        kp: r.kp,
+        lambda: r.lambda,
+        gamma: r.gamma,
+        phi: r.phi,
+        rd_card: given_from(rd_card),
+        rs_card: given_from(rs_card),
+        rsh: r.rsh,
+        is_bulk: r.is_bulk,
+        js: r.js,
+        kf: r.kf,
+        af: r.af,
+        tnom: Kelvin(r.tnom),
+        polarity: r.polarity,
+        cgso: r.cgso,
+        cgdo: r.cgdo,
+        cgbo: r.cgbo,
+        cox: r.cox,
+        cj: r.cj,
+        cjsw: r.cjsw,
+        pb: r.pb,
+        mj: r.mj,
+        mjsw: r.mjsw,
+        fc: r.fc,
+    }
+}
+
+fn geometry_from(r: GeometryRecord) -> Geometry
+    ensures { λ g. ⌜ g ≡ geometryFrom r ⌝ }
+{
+    Geometry {
+        rd: r.rd,
+        rs: r.rs,
+        nrd: r.nrd,
+        nrs: r.nrs,
+        isat_bs: r.isat_bs,
+        isat_bd: r.isat_bd,
+        w: r.w,
+        l: r.l,
+        w_over_l: r.w_over_l,
+        as_: r.as_,
+        ad: r.ad,
+        ps: r.ps,
+        pd: r.pd,
+        cgs_ov: r.cgs_ov,
+        cgd_ov: r.cgd_ov,
+        cgb_ov: r.cgb_ov,
+        cox_wl: r.cox_wl,
+        cbs_bot: r.cbs_bot,
+        cbs_sw: r.cbs_sw,
+        cbd_bot: r.cbd_bot,
+        cbd_sw: r.cbd_sw,
+    }
+}
+
+fn scaled_from(r: ScaledRecord) -> Scaled
+    ensures { λ s. ⌜ s ≡ scaledFrom r ⌝ }
+{
+    Scaled {
+        isat_t_factor: r.isat_t_factor,
+        pb_t: r.pb_t,
+        cj_t_factor: r.cj_t_factor,
+        cjsw_t_factor: r.cjsw_t_factor,
+        vto_t: r.vto_t,
+        kp_t: r.kp_t,
+        phi_t: r.phi_t,
+    }
+}
+
+fn terminals_from(r: TerminalsRecord) -> Terminals
+    ensures { λ t. ⌜ t ≡ terminalsFrom r ⌝ }
+{
+    let drain_ext = r.drain_ext;
+    let source_ext = r.source_ext;
+    let drain = r.drain;
+    let gate = r.gate;
+    let source = r.source;
+    let bulk = r.bulk;
+    Terminals {
+        drain_ext: node_from(drain_ext),
+        source_ext: node_from(source_ext),
+        drain: node_from(drain),
+        gate: node_from(gate),
+        source: node_from(source),
+        bulk: node_from(bulk),
+    }
+}
+
+fn point_from(r: PointRecord) -> OperatingPoint
+    ensures { λ p. ⌜ p ≡ pointFrom r ⌝ }
+{
+    OperatingPoint {
+        ids_eval: r.ids_eval,
+        gbs: r.gbs,
+        gbd: r.gbd,
+        ibs_eq: r.ibs_eq,
+        ibd_eq: r.ibd_eq,
+        gm: r.gm,
+        gds: r.gds,
+        gmbs: r.gmbs,
+        jeq: r.jeq,
+        vgs_eff_prev: r.vgs_eff_prev,
+        vds_eff_prev: r.vds_eff_prev,
+    }
+}
+
+fn charges_from(r: ChargesRecord) -> Charges
+    ensures { λ q. ⌜ q ≡ chargesFrom r ⌝ }
+{
+    Charges {
+        cgs_eval: r.cgs_eval,
+        cgd_eval: r.cgd_eval,
+        cgb_eval: r.cgb_eval,
+        q_gs_eval: r.q_gs_eval,
+        q_gd_eval: r.q_gd_eval,
+        q_gb_eval: r.q_gb_eval,
+        vbs_eval: r.vbs_eval,
+        vbd_eval: r.vbd_eval,
+        cbs_eval: r.cbs_eval,
+        cbd_eval: r.cbd_eval,
+        q_bs_eval: r.q_bs_eval,
+        q_bd_eval: r.q_bd_eval,
+    }
+}
+
+fn history_from(r: HistoryRecord) -> ChargeHistory
+    ensures { λ h. ⌜ h ≡ historyFrom r ⌝ }
+{
+    let q_prev2 = r.q_prev2;
+    ChargeHistory {
+        q_prev: r.q_prev,
+        q_prev2: given_from(q_prev2),
+        i_prev: r.i_prev,
+    }
+}
+
+fn histories_from(r: HistoriesRecord) -> Histories
+    ensures { λ h. ⌜ h ≡ historiesFrom r ⌝ }
+{
+    let gs_hist = r.gs_hist;
+    let gd_hist = r.gd_hist;
+    let gb_hist = r.gb_hist;
+    let bs_hist = r.bs_hist;
+    let bd_hist = r.bd_hist;
+    Histories {
+        gs_hist: history_from(gs_hist),
+        gd_hist: history_from(gd_hist),
+        gb_hist: history_from(gb_hist),
+        bs_hist: history_from(bs_hist),
+        bd_hist: history_from(bd_hist),
+    }
+}
+
+pub fn device_from(r: DeviceRecord) -> Mosfet1
+    ensures { λ d. ⌜ d ≡ deviceFrom r ⌝ }
+{
+    let card = r.card;
+    let geometry = r.geometry;
+    let scaled = r.scaled;
+    let terminals = r.terminals;
+    let point = r.point;
+    let charges = r.charges;
+    let histories = r.histories;
+    let method = r.method;
+    Mosfet1 {
+        card: card_from(card),
+        geometry: geometry_from(geometry),
+        scaled: scaled_from(scaled),
+        terminals: terminals_from(terminals),
+        point: point_from(point),
+        charges: charges_from(charges),
+        histories: histories_from(histories),
+        disc: method_from(method),
+        stage: stage_from(r.stage),
+    }
+}
+
+// ---- tags
+
+fn good_terminals(t: TerminalsRecord) -> bool
+    ensures { λ r. ⌜ r ≡ goodTerminals t ⌝ }
+{
+    if 1 < t.drain_ext.tag {
+        return false;
+    }
+    if 1 < t.source_ext.tag {
+        return false;
+    }
+    if 1 < t.drain.tag {
+        return false;
+    }
+    if 1 < t.gate.tag {
+        return false;
+    }
+    if 1 < t.source.tag {
+        return false;
+    }
+    t.bulk.tag <= 1
+}
+
+fn good_histories(h: HistoriesRecord) -> bool
+    ensures { λ r. ⌜ r ≡ goodHistories h ⌝ }
+{
+    if 1 < h.gs_hist.q_prev2.tag {
+        return false;
+    }
+    if 1 < h.gd_hist.q_prev2.tag {
+        return false;
+    }
+    if 1 < h.gb_hist.q_prev2.tag {
+        return false;
+    }
+    if 1 < h.bs_hist.q_prev2.tag {
+        return false;
+    }
+    h.bd_hist.q_prev2.tag <= 1
+}
+
+fn good_stage(stage: u64) -> bool
+    ensures { λ r. ⌜ r ≡ goodStage stage ⌝ }
+{
+    if stage < 1 {
+        return false;
+    }
+    stage <= 5
+}
+
+// Whether every tag of a device's record is known.
+pub fn good_tags(d: DeviceRecord) -> bool
+    ensures { λ r. ⌜ r ≡ goodTags d ⌝ }
+{
+    if 1 < d.card.rd_card.tag {
+        return false;
+    }
+    if 1 < d.card.rs_card.tag {
+        return false;
+    }
+    if 3 < d.method.tag {
+        return false;
+    }
+    let terminals = d.terminals;
+    if !good_terminals(terminals) {
+        return false;
+    }
+    let histories = d.histories;
+    if !good_histories(histories) {
+        return false;
+    }
+    good_stage(d.stage)
+}

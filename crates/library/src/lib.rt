@@ -1,0 +1,138 @@
+// The calls for C and Rust on x86-64 (include/mivtolgya.h). Each takes the caller's record by value and answers the record that is
+// to take its place; a lent slice is a pointer and a length. Each is the call of the same name on records, whose definitions say
+// what is answered and what the lent slices hold afterwards.
+use record::DeviceOutcome;
+use record::DeviceRecord;
+use record_setup::CountOutcome;
+use record_setup::KeysOutcome;
+use record_setup::NodesRecord;
+use record_small_signal::NoiseOutcome;
+use record_small_signal::ReactancesOutcome;
+use record_steps::ConditionsRecord;
+use record_steps::EvaluationOutcome;
+ghost use mathlib.Core.Path.{_≡_};
+ghost use lib.ListN.{length};
+ghost use Rattle.assembly.specs.Assembly.{Pattern};
+ghost use Rattle.record_setup.specs.Setup.{cardCall, cardCallList, geometryCall, geometryCallList, scalingCall, bindingCall, extraNodesCall};
+ghost use Rattle.record_steps.specs.Steps.{evalCall, commitCall};
+ghost use Rattle.record_small_signal.specs.SmallSignal.{noiseCall, reactancesCall};
+ghost use Rattle.record_loading.specs.Load.{loadCall, loadedSide, loadedMatrix};
+
+#[no_mangle]
+pub extern "C" fn mivtolgya_from_model_params(
+    old: DeviceRecord,
+    polarity: u64,
+    bytes: &[u8],
+    offsets: &[usize],
+    lengths: &[usize],
+    values: &[f64],
+    unknown: &mut [usize],
+) -> KeysOutcome
+    ensures { λ o. ⌜ (o ≡ cardCall old polarity (now (bytes .entry)) (now (offsets .entry)) (now (lengths .entry)) (now (values .entry)) (length (now (unknown .entry))))
+        × (now (unknown .exit) ≡ cardCallList polarity (now (bytes .entry)) (now (offsets .entry)) (now (lengths .entry)) (now (values .entry)) (now (unknown .entry))) ⌝ }
+{
+    record_setup::from_model_params(old, polarity, bytes, offsets, lengths, values, unknown)
+}
+
+#[no_mangle]
+pub extern "C" fn mivtolgya_set_instance_params(
+    device: DeviceRecord,
+    bytes: &[u8],
+    offsets: &[usize],
+    lengths: &[usize],
+    values: &[f64],
+    unknown: &mut [usize],
+) -> KeysOutcome
+    ensures { λ o. ⌜ (o ≡ geometryCall device (now (bytes .entry)) (now (offsets .entry)) (now (lengths .entry)) (now (values .entry)) (length (now (unknown .entry))))
+        × (now (unknown .exit) ≡ geometryCallList device (now (bytes .entry)) (now (offsets .entry)) (now (lengths .entry)) (now (values .entry)) (now (unknown .entry))) ⌝ }
+{
+    record_setup::set_instance_params(device, bytes, offsets, lengths, values, unknown)
+}
+
+#[no_mangle]
+pub extern "C" fn mivtolgya_setup_model(device: DeviceRecord, temperature: f64) -> DeviceOutcome
+    ensures { λ o. ⌜ o ≡ scalingCall device temperature ⌝ }
+{
+    record_setup::setup_model(device, temperature)
+}
+
+#[no_mangle]
+pub extern "C" fn mivtolgya_num_extra_nodes(device: DeviceRecord) -> CountOutcome
+    ensures { λ o. ⌜ o ≡ extraNodesCall device ⌝ }
+{
+    record_setup::num_extra_nodes(device)
+}
+
+#[no_mangle]
+pub extern "C" fn mivtolgya_setup_instance(
+    device: DeviceRecord,
+    nodes: NodesRecord,
+    first: usize,
+) -> DeviceOutcome
+    ensures { λ o. ⌜ o ≡ bindingCall device nodes first ⌝ }
+{
+    record_setup::setup_instance(device, nodes, first)
+}
+
+#[no_mangle]
+pub extern "C" fn mivtolgya_eval(
+    device: DeviceRecord,
+    x: &[f64],
+    conditions: ConditionsRecord,
+) -> EvaluationOutcome
+    ensures { λ o. ⌜ o ≡ evalCall device (now (x .entry)) conditions ⌝ }
+{
+    record_steps::eval(device, x, conditions)
+}
+
+#[no_mangle]
+pub extern "C" fn mivtolgya_load(
+    device: DeviceRecord,
+    transient: u64,
+    alpha: f64,
+    rhs: &mut [f64],
+    values: &mut [f64],
+    columns: &[u32],
+    offsets: &[usize],
+    lengths: &[usize],
+) -> u64
+    ensures { λ o. ⌜ (o ≡ loadCall device transient alpha (record { columns = now (columns .entry); offsets = now (offsets .entry); lengths = now (lengths .entry) }) (now (rhs .entry)) (now (values .entry)))
+        × ((now (rhs .exit) ≡ loadedSide device transient alpha (record { columns = now (columns .entry); offsets = now (offsets .entry); lengths = now (lengths .entry) }) (now (rhs .entry)) (now (values .entry)))
+        × (now (values .exit) ≡ loadedMatrix device transient alpha (record { columns = now (columns .entry); offsets = now (offsets .entry); lengths = now (lengths .entry) }) (now (rhs .entry)) (now (values .entry)))) ⌝ }
+{
+    record_loading::load(
+        device,
+        transient,
+        alpha,
+        rhs,
+        values,
+        columns,
+        offsets,
+        lengths,
+    )
+}
+
+#[no_mangle]
+pub extern "C" fn mivtolgya_commit_timestep(device: DeviceRecord, x: &[f64]) -> DeviceOutcome
+    ensures { λ o. ⌜ o ≡ commitCall device (now (x .entry)) ⌝ }
+{
+    record_steps::commit_timestep(device, x)
+}
+
+#[no_mangle]
+pub extern "C" fn mivtolgya_noise_sources(
+    device: DeviceRecord,
+    temperature: f64,
+    freq: f64,
+) -> NoiseOutcome
+    ensures { λ o. ⌜ o ≡ noiseCall device temperature freq ⌝ }
+{
+    record_small_signal::noise_sources(device, temperature, freq)
+}
+
+#[no_mangle]
+pub extern "C" fn mivtolgya_small_signal_reactances(device: DeviceRecord) -> ReactancesOutcome
+    ensures { λ o. ⌜ o ≡ reactancesCall device ⌝ }
+{
+    record_small_signal::small_signal_reactances(device)
+}

@@ -1,0 +1,435 @@
+// The device as a record for C: numbers alone, every field of eight bytes, so that there is no padding and records can be
+// copied and compared byte by byte. Choices are numbers, their tags; a record whose tags are all known stands for one device.
+use device::Card;
+use device::ChargeHistory;
+use device::Charges;
+use device::Discretisation;
+use device::Geometry;
+use device::Given;
+use device::Histories;
+use device::Mosfet1;
+use device::NodeId;
+use device::OperatingPoint;
+use device::Scaled;
+use device::Stage;
+use device::Terminals;
+use temperature::Kelvin;
+ghost use mathlib.Core.Path.{_≡_};
+ghost use Rattle.record.specs.Records.{stageTag, nodeRecord, givenRecord, methodRecord, cardRecord, geometryRecord, scaledRecord, terminalsRecord, pointRecord, chargesRecord, historyRecord, historiesRecord, deviceRecord};
+
+// A node: tag 0 is ground, tag 1 the row that `index` names.
+#[repr(C)]
+pub struct NodeRecord {
+    pub tag: u64,
+    pub index: usize,
+}
+
+// A number that may be absent: tag 0 absent, tag 1 `value`.
+#[repr(C)]
+pub struct GivenRecord {
+    pub tag: u64,
+    pub value: f64,
+}
+
+// An integration method: tag 0 none, 1 Euler with h, 2 trapezoid with h, 3 Gear with h and the earlier h.
+#[repr(C)]
+pub struct MethodRecord {
+    pub tag: u64,
+    pub h: f64,
+    pub h_prev: f64,
+}
+
+// What the card says; tnom in kelvin.
+#[repr(C)]
+pub struct CardRecord {
+    pub vto: f64,
+    pub kp: f64,
+    pub lambda: f64,
+    pub gamma: f64,
+    pub phi: f64,
+    pub rd_card: GivenRecord,
+    pub rs_card: GivenRecord,
+    pub rsh: f64,
+    pub is_bulk: f64,
+    pub js: f64,
+    pub kf: f64,
+    pub af: f64,
+    pub tnom: f64,
+    pub polarity: f64,
+    pub cgso: f64,
+    pub cgdo: f64,
+    pub cgbo: f64,
+    pub cox: f64,
+    pub cj: f64,
+    pub cjsw: f64,
+    pub pb: f64,
+    pub mj: f64,
+    pub mjsw: f64,
+    pub fc: f64,
+}
+
+// The instance's geometry.
+#[repr(C)]
+pub struct GeometryRecord {
+    pub rd: f64,
+    pub rs: f64,
+    pub nrd: f64,
+    pub nrs: f64,
+    pub isat_bs: f64,
+    pub isat_bd: f64,
+    pub w: f64,
+    pub l: f64,
+    pub w_over_l: f64,
+    pub as_: f64,
+    pub ad: f64,
+    pub ps: f64,
+    pub pd: f64,
+    pub cgs_ov: f64,
+    pub cgd_ov: f64,
+    pub cgb_ov: f64,
+    pub cox_wl: f64,
+    pub cbs_bot: f64,
+    pub cbs_sw: f64,
+    pub cbd_bot: f64,
+    pub cbd_sw: f64,
+}
+
+// The parameters at the scaling's temperature.
+#[repr(C)]
+pub struct ScaledRecord {
+    pub isat_t_factor: f64,
+    pub pb_t: f64,
+    pub cj_t_factor: f64,
+    pub cjsw_t_factor: f64,
+    pub vto_t: f64,
+    pub kp_t: f64,
+    pub phi_t: f64,
+}
+
+// The six nodes.
+#[repr(C)]
+pub struct TerminalsRecord {
+    pub drain_ext: NodeRecord,
+    pub source_ext: NodeRecord,
+    pub drain: NodeRecord,
+    pub gate: NodeRecord,
+    pub source: NodeRecord,
+    pub bulk: NodeRecord,
+}
+
+// What the last evaluation left.
+#[repr(C)]
+pub struct PointRecord {
+    pub ids_eval: f64,
+    pub gbs: f64,
+    pub gbd: f64,
+    pub ibs_eq: f64,
+    pub ibd_eq: f64,
+    pub gm: f64,
+    pub gds: f64,
+    pub gmbs: f64,
+    pub jeq: f64,
+    pub vgs_eff_prev: f64,
+    pub vds_eff_prev: f64,
+}
+
+// What the last transient evaluation left.
+#[repr(C)]
+pub struct ChargesRecord {
+    pub cgs_eval: f64,
+    pub cgd_eval: f64,
+    pub cgb_eval: f64,
+    pub q_gs_eval: f64,
+    pub q_gd_eval: f64,
+    pub q_gb_eval: f64,
+    pub vbs_eval: f64,
+    pub vbd_eval: f64,
+    pub cbs_eval: f64,
+    pub cbd_eval: f64,
+    pub q_bs_eval: f64,
+    pub q_bd_eval: f64,
+}
+
+// A charge branch's past.
+#[repr(C)]
+pub struct HistoryRecord {
+    pub q_prev: f64,
+    pub q_prev2: GivenRecord,
+    pub i_prev: f64,
+}
+
+#[repr(C)]
+pub struct HistoriesRecord {
+    pub gs_hist: HistoryRecord,
+    pub gd_hist: HistoryRecord,
+    pub gb_hist: HistoryRecord,
+    pub bs_hist: HistoryRecord,
+    pub bd_hist: HistoryRecord,
+}
+
+// The device. The stage counts from 1: card, geometry, scaling, binding, evaluation; so memory of zeros is no device.
+#[repr(C)]
+pub struct DeviceRecord {
+    pub card: CardRecord,
+    pub geometry: GeometryRecord,
+    pub scaled: ScaledRecord,
+    pub terminals: TerminalsRecord,
+    pub point: PointRecord,
+    pub charges: ChargesRecord,
+    pub histories: HistoriesRecord,
+    pub method: MethodRecord,
+    pub stage: u64,
+}
+
+// The device after a call and the number of the refusal, 0 where the call is accepted. A refused call's device is the one handed in.
+#[repr(C)]
+pub struct DeviceOutcome {
+    pub refusal: u64,
+    pub device: DeviceRecord,
+}
+
+// A refusal's number as the record's tags are: as wide as every other field.
+pub fn wide(n: u8) -> u64
+    ensures { λ r. ⌜ r ≡ n ⌝ }
+{
+    n as u64
+}
+
+// ---- from the device to the record; a field that a tag leaves unused is 0
+
+pub fn node_record(node: NodeId) -> NodeRecord
+    ensures { λ r. ⌜ r ≡ nodeRecord node ⌝ }
+{
+    match node {
+        NodeId::Ground => NodeRecord { tag: 0, index: 0 },
+        NodeId::At(index) => NodeRecord { tag: 1, index },
+    }
+}
+
+fn given_record(given: Given) -> GivenRecord
+    ensures { λ r. ⌜ r ≡ givenRecord given ⌝ }
+{
+    match given {
+        Given::Absent => GivenRecord { tag: 0, value: 0.0 },
+        Given::Value(value) => GivenRecord { tag: 1, value },
+    }
+}
+
+fn method_record(method: Discretisation) -> MethodRecord
+    ensures { λ r. ⌜ r ≡ methodRecord method ⌝ }
+{
+    match method {
+        Discretisation::None => MethodRecord {
+            tag: 0,
+            h: 0.0,
+            h_prev: 0.0,
+        },
+        Discretisation::Euler(h) => MethodRecord {
+            tag: 1,
+            h,
+            h_prev: 0.0,
+        },
+        Discretisation::Trapezoid(h) => MethodRecord {
+            tag: 2,
+            h,
+            h_prev: 0.0,
+        },
+        Discretisation::Gear(h, h_prev) => MethodRecord { tag: 3, h, h_prev },
+    }
+}
+
+fn stage_tag(stage: Stage) -> u64
+    ensures { λ r. ⌜ r ≡ stageTag stage ⌝ }
+{
+    match stage {
+        Stage::Card => 1,
+        Stage::Geometry => 2,
+        Stage::Scaled => 3,
+        Stage::Bound => 4,
+        Stage::Evaluated => 5,
+    }
+}
+
+fn card_record(card: Card) -> CardRecord
+    ensures { λ r. ⌜ r ≡ cardRecord card ⌝ }
+{
+    let rd_card = card.rd_card;
+    let rs_card = card.rs_card;
+    CardRecord {
+        vto: card.vto,
+        kp: card.kp,
+        lambda: card.lambda,
+        gamma: card.gamma,
+        phi: card.phi,
+        rd_card: given_record(rd_card),
+        rs_card: given_record(rs_card),
+        rsh: card.rsh,
+        is_bulk: card.is_bulk,
+        js: card.js,
+        kf: card.kf,
+        af: card.af,
+        tnom: card.tnom.0,
+        polarity: card.polarity,
+        cgso: card.cgso,
+        cgdo: card.cgdo,
+        cgbo: card.cgbo,
+        cox: card.cox,
+        cj: card.cj,
+        cjsw: card.cjsw,
+        pb: card.pb,
+        mj: card.mj,
+        mjsw: card.mjsw,
+        fc: card.fc,
+    }
+}
+
+fn geometry_record(g: Geometry) -> GeometryRecord
+    ensures { λ r. ⌜ r ≡ geometryRecord g ⌝ }
+{
+    GeometryRecord {
+        rd: g.rd,
+        rs: g.rs,
+        nrd: g.nrd,
+        nrs: g.nrs,
+        isat_bs: g.isat_bs,
+        isat_bd: g.isat_bd,
+        w: g.w,
+        l: g.l,
+        w_over_l: g.w_over_l,
+        as_: g.as_,
+        ad: g.ad,
+        ps: g.ps,
+        pd: g.pd,
+        cgs_ov: g.cgs_ov,
+        cgd_ov: g.cgd_ov,
+        cgb_ov: g.cgb_ov,
+        cox_wl: g.cox_wl,
+        cbs_bot: g.cbs_bot,
+        cbs_sw: g.cbs_sw,
+        cbd_bot: g.cbd_bot,
+        cbd_sw: g.cbd_sw,
+    }
+}
+
+fn scaled_record(s: Scaled) -> ScaledRecord
+    ensures { λ r. ⌜ r ≡ scaledRecord s ⌝ }
+{
+    ScaledRecord {
+        isat_t_factor: s.isat_t_factor,
+        pb_t: s.pb_t,
+        cj_t_factor: s.cj_t_factor,
+        cjsw_t_factor: s.cjsw_t_factor,
+        vto_t: s.vto_t,
+        kp_t: s.kp_t,
+        phi_t: s.phi_t,
+    }
+}
+
+fn terminals_record(t: Terminals) -> TerminalsRecord
+    ensures { λ r. ⌜ r ≡ terminalsRecord t ⌝ }
+{
+    let drain_ext = t.drain_ext;
+    let source_ext = t.source_ext;
+    let drain = t.drain;
+    let gate = t.gate;
+    let source = t.source;
+    let bulk = t.bulk;
+    TerminalsRecord {
+        drain_ext: node_record(drain_ext),
+        source_ext: node_record(source_ext),
+        drain: node_record(drain),
+        gate: node_record(gate),
+        source: node_record(source),
+        bulk: node_record(bulk),
+    }
+}
+
+fn point_record(p: OperatingPoint) -> PointRecord
+    ensures { λ r. ⌜ r ≡ pointRecord p ⌝ }
+{
+    PointRecord {
+        ids_eval: p.ids_eval,
+        gbs: p.gbs,
+        gbd: p.gbd,
+        ibs_eq: p.ibs_eq,
+        ibd_eq: p.ibd_eq,
+        gm: p.gm,
+        gds: p.gds,
+        gmbs: p.gmbs,
+        jeq: p.jeq,
+        vgs_eff_prev: p.vgs_eff_prev,
+        vds_eff_prev: p.vds_eff_prev,
+    }
+}
+
+fn charges_record(q: Charges) -> ChargesRecord
+    ensures { λ r. ⌜ r ≡ chargesRecord q ⌝ }
+{
+    ChargesRecord {
+        cgs_eval: q.cgs_eval,
+        cgd_eval: q.cgd_eval,
+        cgb_eval: q.cgb_eval,
+        q_gs_eval: q.q_gs_eval,
+        q_gd_eval: q.q_gd_eval,
+        q_gb_eval: q.q_gb_eval,
+        vbs_eval: q.vbs_eval,
+        vbd_eval: q.vbd_eval,
+        cbs_eval: q.cbs_eval,
+        cbd_eval: q.cbd_eval,
+        q_bs_eval: q.q_bs_eval,
+        q_bd_eval: q.q_bd_eval,
+    }
+}
+
+fn history_record(h: ChargeHistory) -> HistoryRecord
+    ensures { λ r. ⌜ r ≡ historyRecord h ⌝ }
+{
+    let q_prev2 = h.q_prev2;
+    HistoryRecord {
+        q_prev: h.q_prev,
+        q_prev2: given_record(q_prev2),
+        i_prev: h.i_prev,
+    }
+}
+
+fn histories_record(h: Histories) -> HistoriesRecord
+    ensures { λ r. ⌜ r ≡ historiesRecord h ⌝ }
+{
+    let gs_hist = h.gs_hist;
+    let gd_hist = h.gd_hist;
+    let gb_hist = h.gb_hist;
+    let bs_hist = h.bs_hist;
+    let bd_hist = h.bd_hist;
+    HistoriesRecord {
+        gs_hist: history_record(gs_hist),
+        gd_hist: history_record(gd_hist),
+        gb_hist: history_record(gb_hist),
+        bs_hist: history_record(bs_hist),
+        bd_hist: history_record(bd_hist),
+    }
+}
+
+pub fn device_record(d: Mosfet1) -> DeviceRecord
+    ensures { λ r. ⌜ r ≡ deviceRecord d ⌝ }
+{
+    let card = d.card;
+    let geometry = d.geometry;
+    let scaled = d.scaled;
+    let terminals = d.terminals;
+    let point = d.point;
+    let charges = d.charges;
+    let histories = d.histories;
+    let disc = d.disc;
+    let stage = d.stage;
+    DeviceRecord {
+        card: card_record(card),
+        geometry: geometry_record(geometry),
+        scaled: scaled_record(scaled),
+        terminals: terminals_record(terminals),
+        point: point_record(point),
+        charges: charges_record(charges),
+        histories: histories_record(histories),
+        method: method_record(disc),
+        stage: stage_tag(stage),
+    }
+}

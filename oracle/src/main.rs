@@ -1,0 +1,130 @@
+//! What the published Rust answers to a script of calls, behind the refusal table of document 01.
+//!
+//! `oracle < script` writes an answer line for each command; `oracle curve < lines` does what the program `curve` does. build.rs says
+//! how the Rust is put together.
+
+include!(concat!(env!("OUT_DIR"), "/modules.rs"));
+
+mod arithmetic;
+mod curve;
+mod format;
+mod functions;
+mod rows;
+mod session;
+
+use std::io::{BufRead, Write};
+use std::panic::{catch_unwind, AssertUnwindSafe};
+
+use format::{bytes, column, list, method, node, number, pair, split_at_mark, whole};
+use rows::{Keys, Matrix};
+use session::{Answer, Conditions, Session};
+
+/// Keys of the plain form, end to end, with room for every place.
+fn plain_keys(words: &[&[u8]]) -> Option<Keys> {
+    if words.len() > format::LONGEST_LIST {
+        return None;
+    }
+    let mut keys = Keys { bytes: Vec::new(), pairs: Vec::new(), values: Vec::new(), room: words.len() as u64 };
+    for word in words {
+        let (name, value) = split_at_mark(word, b'=')?;
+        keys.pairs.push((keys.bytes.len() as u64, name.len() as u64));
+        keys.bytes.extend_from_slice(name);
+        keys.values.push(number(value)?);
+    }
+    Some(keys)
+}
+
+fn raw_keys(words: &[&[u8]]) -> Option<Keys> {
+    let [room, key_bytes, pairs, values] = words else { return None };
+    Some(Keys {
+        room: whole(room)?,
+        bytes: bytes(key_bytes)?,
+        pairs: list(pairs, pair)?,
+        values: list(values, number)?,
+    })
+}
+
+fn one_of(word: &[u8], yes: &[u8], no: &[u8]) -> Option<bool> {
+    if word == yes {
+        return Some(true);
+    }
+    (word == no).then_some(false)
+}
+
+/// None for a direct-current load.
+fn load_kind(word: &[u8]) -> Option<Option<f64>> {
+    if word == b"dc" {
+        return Some(None);
+    }
+    Some(Some(number(word.strip_prefix(b"tran:")?)?))
+}
+
+/// The answer of a command, or None where it is not understood.
+fn answer(session: &mut Session, words: &[&[u8]]) -> Option<String> {
+    let made: Answer = match words {
+        [b"card", polarity, keys @ ..] => session.card(one_of(polarity, b"p", b"n")?, &plain_keys(keys)?),
+        [b"cardraw", polarity, keys @ ..] => session.card(one_of(polarity, b"p", b"n")?, &raw_keys(keys)?),
+        [b"geometry", keys @ ..] => session.geometry(&plain_keys(keys)?),
+        [b"geometryraw", keys @ ..] => session.geometry(&raw_keys(keys)?),
+        [b"scale", kelvin] => session.scale(number(kelvin)?),
+        [b"bind", d, g, s, b, first] => session.bind([node(d)?, node(g)?, node(s)?, node(b)?], whole(first)?),
+        [b"eval", kind, kelvin, gmin, limiter, how, x] => {
+            let conditions = Conditions {
+                transient: one_of(kind, b"tran", b"dc")?,
+                kelvin: number(kelvin)?,
+                gmin: number(gmin)?,
+                limiter: one_of(limiter, b"lim", b"nolim")?,
+                method: method(how)?,
+            };
+            session.eval(conditions, &list(x, number)?)
+        }
+        [b"load", kind, rhs, columns, rows, values] => {
+            let matrix =
+                Matrix { columns: list(columns, column)?, rows: list(rows, pair)?, values: list(values, number)? };
+            session.load(load_kind(kind)?, list(rhs, number)?, matrix)
+        }
+        [b"commit", x] => session.commit(&list(x, number)?),
+        [b"noise", kelvin, freq] => session.noise(number(kelvin)?, number(freq)?),
+        [b"reactances"] => session.reactances(),
+        [b"state"] => Ok(session.state()),
+        [b"reset"] => {
+            *session = Session::new();
+            Ok("reset".to_string())
+        }
+        [b"call", name, arguments @ ..] => return functions::call(name, arguments),
+        _ => return None,
+    };
+    Some(made.unwrap_or_else(|row| format!("refused {row}")))
+}
+
+fn script(input: impl BufRead, out: &mut impl Write) -> std::io::Result<()> {
+    let mut session = Session::new();
+    for (at, line) in input.split(b'\n').enumerate() {
+        let line = line?;
+        let words = format::words(&line);
+        let too_long = line.len() > format::LONGEST_LINE;
+        if !too_long && (words.is_empty() || line.starts_with(b"#")) {
+            continue;
+        }
+        let command = AssertUnwindSafe(|| if too_long { None } else { answer(&mut session, &words) });
+        let Ok(text) = catch_unwind(command) else {
+            writeln!(out, "panic")?;
+            out.flush()?;
+            eprintln!("line {}: {}", at + 1, String::from_utf8_lossy(&line));
+            std::process::exit(101);
+        };
+        writeln!(out, "{}", text.as_deref().unwrap_or("bad"))?;
+    }
+    Ok(())
+}
+
+fn main() -> std::io::Result<()> {
+    let input = std::io::stdin().lock();
+    let mut out = std::io::BufWriter::new(std::io::stdout().lock());
+    match std::env::args().nth(1).as_deref() {
+        None => script(input, &mut out)?,
+        Some("curve") => curve::run(input, &mut out)?,
+        Some(other) => panic!("no such word: {other}; see main.rs"),
+    }
+    out.flush()
+}

@@ -1,0 +1,278 @@
+//! The refusal table of document 01, before any call of the Rust. Written from that paper and the readings of docs/DECISIONS.md.
+//!
+//! Each call's function goes through its rows in the order of their numbers, so that the lowest that applies is the one answered. A row
+//! that speaks of something that does not exist yet does not apply. Of the Rust it takes only what the paper points to: the `MOSFET`
+//! list, `scaled_phi` and `scaled_junction_potential`, and the device's nodes, cells and capacitances.
+
+use crate::device::{Discretisation, NodeId};
+use crate::mosfet1::inside::View;
+use crate::temperature::{scaled_junction_potential, scaled_phi};
+use crate::unmodelled;
+
+pub type Row = Result<(), u8>;
+
+/// How far a device has come. The stages form a line.
+#[derive(Clone, Copy, PartialEq, Eq, PartialOrd, Ord)]
+pub enum Stage {
+    NoDevice,
+    Card,
+    Geometry,
+    Scaled,
+    Bound,
+    Evaluated,
+}
+
+fn row(number: u8, applies: bool) -> Row {
+    match applies {
+        true => Err(number),
+        false => Ok(()),
+    }
+}
+
+fn inside(x: f64, low: f64, high: f64) -> bool {
+    low <= x && x <= high
+}
+
+/// Rows 1 and 12: pairs of offset and length in a buffer of `size`.
+fn misplaced(pairs: &[(u64, u64)], size: usize) -> bool {
+    let mut end = 0u64;
+    for (offset, length) in pairs {
+        let starts_early = *offset < end;
+        end = match offset.checked_add(*length) {
+            Some(sum) if !starts_early && sum <= size as u64 => sum,
+            _ => return true,
+        };
+    }
+    false
+}
+
+fn part<T>(buffer: &[T], pair: (u64, u64)) -> &[T] {
+    &buffer[pair.0 as usize..][..pair.1 as usize]
+}
+
+/// What a call's table says of a key.
+enum Key {
+    Range(f64, f64),
+    ZeroOrRange(f64, f64),
+    Tnom,
+    Unread,
+    Unknown,
+}
+
+/// Which call reads the keys.
+#[derive(Clone, Copy)]
+pub enum Table {
+    Card,
+    Geometry,
+}
+
+impl Table {
+    fn key(self, name: &str) -> Key {
+        match self {
+            Table::Card => card_key(name),
+            Table::Geometry => geometry_key(name),
+        }
+    }
+}
+
+fn card_key(name: &str) -> Key {
+    match name {
+        "vto" | "vth0" | "vtho" => Key::Range(-100.0, 100.0),
+        "kp" | "gamma" => Key::Range(0.0, 100.0),
+        "uo" | "u0" => Key::Range(0.0, 1e5),
+        "is" | "kf" | "cgso" | "cgdo" | "cgbo" | "cox" | "cj" | "cjsw" => Key::Range(0.0, 1.0),
+        "js" => Key::Range(0.0, 1e6),
+        "lambda" => Key::Range(0.0, 10.0),
+        "phi" | "pb" => Key::Range(0.1, 10.0),
+        "rd" | "rs" => Key::ZeroOrRange(1e-6, 1e9),
+        "rsh" => Key::ZeroOrRange(1e-6, 1e6),
+        "af" => Key::Range(0.25, 4.0),
+        "tox" => Key::Range(1e-10, 1e-4),
+        "mj" | "mjsw" => Key::Range(0.0, 0.9),
+        "fc" => Key::Range(0.0, 0.95),
+        "tnom" => Key::Tnom,
+        _ if unmodelled::is_listed(unmodelled::MOSFET, name) => Key::Unread,
+        _ => Key::Unknown,
+    }
+}
+
+fn geometry_key(name: &str) -> Key {
+    match name {
+        "w" | "l" => Key::Range(1e-9, 1.0),
+        "as" | "ad" => Key::Range(0.0, 1.0),
+        "ps" | "pd" => Key::Range(0.0, 1e3),
+        "nrd" | "nrs" => Key::ZeroOrRange(1e-6, 1e6),
+        _ => Key::Unknown,
+    }
+}
+
+/// Keys as they are lent: one buffer of bytes, pairs of offset and length, values, and how many places the lent list has.
+pub struct Keys {
+    pub bytes: Vec<u8>,
+    pub pairs: Vec<(u64, u64)>,
+    pub values: Vec<f64>,
+    pub room: u64,
+}
+
+impl Keys {
+    /// The keys as the Rust takes them. Rows 1 and 2 come first.
+    pub fn named(&self) -> Vec<(String, f64)> {
+        let name = |pair: &(u64, u64)| String::from_utf8(part(&self.bytes, *pair).to_vec()).expect("row 2");
+        self.pairs.iter().map(name).zip(self.values.iter().copied()).collect()
+    }
+
+    fn judged(&self, table: Table) -> Vec<(Key, f64)> {
+        self.named().into_iter().map(|(name, value)| (table.key(&name.to_ascii_lowercase()), value)).collect()
+    }
+
+    /// The places of the unknown keys.
+    pub fn unknown(&self, table: Table) -> Vec<usize> {
+        let judged = self.judged(table);
+        (0..judged.len()).filter(|at| matches!(judged[*at].0, Key::Unknown)).collect()
+    }
+
+    fn rows_1_to_4(&self, table: Table) -> Row {
+        row(1, misplaced(&self.pairs, self.bytes.len()) || self.pairs.len() != self.values.len())?;
+        row(2, self.pairs.iter().any(|pair| !part(&self.bytes, *pair).is_ascii()))?;
+        row(3, self.unknown(table).len() as u64 > self.room)?;
+        let out_of_range = |(key, value): &(Key, f64)| match key {
+            Key::Range(low, high) => !inside(*value, *low, *high),
+            Key::ZeroOrRange(low, high) => *value != 0.0 && !inside(*value, *low, *high),
+            Key::Tnom | Key::Unread | Key::Unknown => false,
+        };
+        row(4, self.judged(table).iter().any(out_of_range))
+    }
+
+    /// What the last key of this name says.
+    fn last(&self, name: &str, default: f64) -> f64 {
+        let named = self.named();
+        let found = named.iter().rev().find(|(key, _)| key.to_ascii_lowercase() == name);
+        found.map_or(default, |(_, value)| *value)
+    }
+}
+
+fn bad_temperature(kelvin: f64) -> bool {
+    !inside(kelvin, 200.0, 500.0)
+}
+
+pub fn card(keys: &Keys) -> Row {
+    keys.rows_1_to_4(Table::Card)?;
+    let bad_tnom = |(key, celsius): &(Key, f64)| matches!(key, Key::Tnom) && bad_temperature(celsius + 273.15);
+    row(6, keys.judged(Table::Card).iter().any(bad_tnom))
+}
+
+pub fn geometry(stage: Stage, device: Option<&View>, keys: &Keys) -> Row {
+    keys.rows_1_to_4(Table::Geometry)?;
+    if let Some(d) = device {
+        let norm = keys.last("w", 1e-4) * keys.last("l", 1e-4) * d.cox;
+        row(5, d.kf > 0.0 && !(norm > 0.0 && norm.is_finite()))?;
+    }
+    row(10, stage < Stage::Card || stage >= Stage::Bound)
+}
+
+pub fn scaling(stage: Stage, device: Option<&View>, kelvin: f64) -> Row {
+    row(6, bad_temperature(kelvin))?;
+    if let Some(d) = device {
+        let phi = scaled_phi(d.phi, kelvin, d.tnom);
+        let pb = scaled_junction_potential(d.pb, kelvin, d.tnom);
+        row(7, phi < 0.05 || pb < 0.05)?;
+    }
+    row(10, stage < Stage::Geometry)
+}
+
+/// The six nodes that a binding would set, wide enough for an index beyond the machine's numbers.
+pub fn binding_nodes(device: Option<&View>, four: [NodeId; 4], first: u64) -> [Option<u128>; 6] {
+    let [d, g, s, b] = four.map(|node| node.map(|n| n as u128));
+    let (rd, rs) = device.map_or((0.0, 0.0), |view| (view.rd, view.rs));
+    let first = u128::from(first);
+    let drain = if rd > 0.0 { Some(first) } else { d };
+    let source = if rs > 0.0 { Some(first + u128::from(rd > 0.0)) } else { s };
+    [drain, g, source, b, d, s]
+}
+
+pub fn binding(stage: Stage, nodes: &[Option<u128>; 6]) -> Row {
+    row(8, nodes.iter().flatten().any(|node| *node > u128::from(u32::MAX)))?;
+    row(10, stage < Stage::Scaled || stage >= Stage::Evaluated)
+}
+
+fn beyond(nodes: &[NodeId], length: usize) -> bool {
+    nodes.iter().flatten().any(|node| *node >= length)
+}
+
+/// Rows 8 and 9 of a call that reads the four inner voltages.
+fn voltages(stage: Stage, device: Option<&View>, x: &[f64]) -> Row {
+    let Some(d) = device.filter(|_| stage >= Stage::Bound) else { return Ok(()) };
+    row(8, beyond(&d.nodes, x.len()))?;
+    row(9, d.nodes[..4].iter().flatten().any(|node| !inside(x[*node], -1000.0, 1000.0)))
+}
+
+pub fn evaluation(
+    stage: Stage,
+    device: Option<&View>,
+    kelvin: f64,
+    gmin: f64,
+    method: &Option<Discretisation>,
+    x: &[f64],
+) -> Row {
+    row(6, bad_temperature(kelvin) || !inside(gmin, 0.0, 1.0))?;
+    voltages(stage, device, x)?;
+    row(10, stage < Stage::Bound)?;
+    let steps = method.iter().flat_map(|d| [Some(d.h), d.gear2_h_prev]).flatten();
+    row(11, steps.into_iter().any(|h| !inside(h, 1e-15, 1.0)))
+}
+
+/// The lent matrix.
+pub struct Matrix {
+    pub columns: Vec<u32>,
+    pub rows: Vec<(u64, u64)>,
+    pub values: Vec<f64>,
+}
+
+impl Matrix {
+    fn malformed(&self) -> bool {
+        misplaced(&self.rows, self.columns.len())
+            || self.values.len() != self.columns.len()
+            || (0..self.rows.len()).any(|r| !self.row(r).windows(2).all(|two| two[0] < two[1]))
+    }
+
+    /// The columns of a row whose pair is in place.
+    pub fn row(&self, r: usize) -> &[u32] {
+        part(&self.columns, self.rows[r])
+    }
+
+    fn lacks(&self, cell: &(NodeId, NodeId)) -> bool {
+        match cell {
+            (Some(r), Some(c)) => !self.row(*r).iter().any(|column| *column as usize == *c),
+            _ => false,
+        }
+    }
+}
+
+/// `alpha` is None for a direct-current load.
+pub fn load(stage: Stage, device: Option<&View>, alpha: Option<f64>, rhs: &[f64], matrix: &Matrix) -> Row {
+    let bound = device.filter(|_| stage >= Stage::Bound);
+    if let Some(d) = bound {
+        row(8, beyond(&d.nodes, rhs.len()) || beyond(&d.nodes, matrix.rows.len()))?;
+    }
+    row(10, stage < Stage::Evaluated)?;
+    let d = bound.expect("row 10");
+    row(11, alpha.is_some_and(|a| !d.has_step && !inside(a, 1.0, 1e16)))?;
+    row(12, matrix.malformed())?;
+    let loaded = d.branches.iter().filter(|(_, _, c)| alpha.is_some() && *c != 0.0);
+    let of_branches = loaded.flat_map(|(a, b, _)| [(*a, *a), (*a, *b), (*b, *b), (*b, *a)]);
+    row(13, d.pairs.into_iter().chain(of_branches).any(|cell| matrix.lacks(&cell)))
+}
+
+pub fn commit(stage: Stage, device: Option<&View>, x: &[f64]) -> Row {
+    voltages(stage, device, x)?;
+    row(10, stage < Stage::Evaluated)
+}
+
+pub fn noise(stage: Stage, kelvin: f64) -> Row {
+    row(6, bad_temperature(kelvin))?;
+    row(10, stage < Stage::Evaluated)
+}
+
+pub fn reactances(stage: Stage) -> Row {
+    row(10, stage < Stage::Evaluated)
+}

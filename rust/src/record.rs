@@ -1,0 +1,278 @@
+//! The records of include/mivtolgya.h, word for word those of the sources (tools/c_test.py compares them).
+
+/// A node: tag 0 is ground, tag 1 the row that `index` names.
+#[repr(C)]
+#[derive(Clone, Copy, Debug)]
+pub struct NodeRecord {
+    pub tag: u64,
+    pub index: usize,
+}
+
+/// A number that may be absent: tag 0 absent, tag 1 `value`.
+#[repr(C)]
+#[derive(Clone, Copy, Debug)]
+pub struct GivenRecord {
+    pub tag: u64,
+    pub value: f64,
+}
+
+/// An integration method: tag 0 none, 1 Euler with h, 2 trapezoid with h, 3 Gear with h and the earlier h.
+#[repr(C)]
+#[derive(Clone, Copy, Debug)]
+pub struct MethodRecord {
+    pub tag: u64,
+    pub h: f64,
+    pub h_prev: f64,
+}
+
+/// What the card says; tnom in kelvin.
+#[repr(C)]
+#[derive(Clone, Copy, Debug)]
+pub struct CardRecord {
+    pub vto: f64,
+    pub kp: f64,
+    pub lambda: f64,
+    pub gamma: f64,
+    pub phi: f64,
+    pub rd_card: GivenRecord,
+    pub rs_card: GivenRecord,
+    pub rsh: f64,
+    pub is_bulk: f64,
+    pub js: f64,
+    pub kf: f64,
+    pub af: f64,
+    pub tnom: f64,
+    pub polarity: f64,
+    pub cgso: f64,
+    pub cgdo: f64,
+    pub cgbo: f64,
+    pub cox: f64,
+    pub cj: f64,
+    pub cjsw: f64,
+    pub pb: f64,
+    pub mj: f64,
+    pub mjsw: f64,
+    pub fc: f64,
+}
+
+/// The instance's geometry.
+#[repr(C)]
+#[derive(Clone, Copy, Debug)]
+pub struct GeometryRecord {
+    pub rd: f64,
+    pub rs: f64,
+    pub nrd: f64,
+    pub nrs: f64,
+    pub isat_bs: f64,
+    pub isat_bd: f64,
+    pub w: f64,
+    pub l: f64,
+    pub w_over_l: f64,
+    pub as_: f64,
+    pub ad: f64,
+    pub ps: f64,
+    pub pd: f64,
+    pub cgs_ov: f64,
+    pub cgd_ov: f64,
+    pub cgb_ov: f64,
+    pub cox_wl: f64,
+    pub cbs_bot: f64,
+    pub cbs_sw: f64,
+    pub cbd_bot: f64,
+    pub cbd_sw: f64,
+}
+
+/// The parameters at the scaling's temperature.
+#[repr(C)]
+#[derive(Clone, Copy, Debug)]
+pub struct ScaledRecord {
+    pub isat_t_factor: f64,
+    pub pb_t: f64,
+    pub cj_t_factor: f64,
+    pub cjsw_t_factor: f64,
+    pub vto_t: f64,
+    pub kp_t: f64,
+    pub phi_t: f64,
+}
+
+/// The six nodes.
+#[repr(C)]
+#[derive(Clone, Copy, Debug)]
+pub struct TerminalsRecord {
+    pub drain_ext: NodeRecord,
+    pub source_ext: NodeRecord,
+    pub drain: NodeRecord,
+    pub gate: NodeRecord,
+    pub source: NodeRecord,
+    pub bulk: NodeRecord,
+}
+
+/// What the last evaluation left.
+#[repr(C)]
+#[derive(Clone, Copy, Debug)]
+pub struct PointRecord {
+    pub ids_eval: f64,
+    pub gbs: f64,
+    pub gbd: f64,
+    pub ibs_eq: f64,
+    pub ibd_eq: f64,
+    pub gm: f64,
+    pub gds: f64,
+    pub gmbs: f64,
+    pub jeq: f64,
+    pub vgs_eff_prev: f64,
+    pub vds_eff_prev: f64,
+}
+
+/// What the last transient evaluation left.
+#[repr(C)]
+#[derive(Clone, Copy, Debug)]
+pub struct ChargesRecord {
+    pub cgs_eval: f64,
+    pub cgd_eval: f64,
+    pub cgb_eval: f64,
+    pub q_gs_eval: f64,
+    pub q_gd_eval: f64,
+    pub q_gb_eval: f64,
+    pub vbs_eval: f64,
+    pub vbd_eval: f64,
+    pub cbs_eval: f64,
+    pub cbd_eval: f64,
+    pub q_bs_eval: f64,
+    pub q_bd_eval: f64,
+}
+
+/// A charge branch's past.
+#[repr(C)]
+#[derive(Clone, Copy, Debug)]
+pub struct HistoryRecord {
+    pub q_prev: f64,
+    pub q_prev2: GivenRecord,
+    pub i_prev: f64,
+}
+
+#[repr(C)]
+#[derive(Clone, Copy, Debug)]
+pub struct HistoriesRecord {
+    pub gs_hist: HistoryRecord,
+    pub gd_hist: HistoryRecord,
+    pub gb_hist: HistoryRecord,
+    pub bs_hist: HistoryRecord,
+    pub bd_hist: HistoryRecord,
+}
+
+/// The device. The stage counts from 1: card, geometry, scaling, binding, evaluation; so memory of zeros is no device.
+#[repr(C)]
+#[derive(Clone, Copy, Debug)]
+pub struct DeviceRecord {
+    pub card: CardRecord,
+    pub geometry: GeometryRecord,
+    pub scaled: ScaledRecord,
+    pub terminals: TerminalsRecord,
+    pub point: PointRecord,
+    pub charges: ChargesRecord,
+    pub histories: HistoriesRecord,
+    pub method: MethodRecord,
+    pub stage: u64,
+}
+
+/// The device after a call and the number of the refusal, 0 where the call is accepted. A refused call's device is the one handed in.
+#[repr(C)]
+#[derive(Clone, Copy, Debug)]
+pub struct DeviceOutcome {
+    pub refusal: u64,
+    pub device: DeviceRecord,
+}
+
+/// The device after a card or geometry call, the count of unknown keys, and the number of the refusal. A refused call's device is
+/// the record handed in, its count 0.
+#[repr(C)]
+#[derive(Clone, Copy, Debug)]
+pub struct KeysOutcome {
+    pub refusal: u64,
+    pub unknown: usize,
+    pub device: DeviceRecord,
+}
+
+/// A count, and the number of the refusal.
+#[repr(C)]
+#[derive(Clone, Copy, Debug)]
+pub struct CountOutcome {
+    pub refusal: u64,
+    pub count: usize,
+}
+
+/// The nodes of a binding.
+#[repr(C)]
+#[derive(Clone, Copy, Debug)]
+pub struct NodesRecord {
+    pub drain: NodeRecord,
+    pub gate: NodeRecord,
+    pub source: NodeRecord,
+    pub bulk: NodeRecord,
+}
+
+/// What an evaluation is handed besides the voltages. The limiter and the transient flag are 0 or 1.
+#[repr(C)]
+#[derive(Clone, Copy, Debug)]
+pub struct ConditionsRecord {
+    pub temperature: f64,
+    pub gmin: f64,
+    pub limiter: u64,
+    pub transient: u64,
+    pub method: MethodRecord,
+}
+
+/// The kept voltages, flipped; the threshold; the current, not flipped; the conductances, gds with gmin.
+#[repr(C)]
+#[derive(Clone, Copy, Debug)]
+pub struct AnswerRecord {
+    pub vgs: f64,
+    pub vds: f64,
+    pub vth: f64,
+    pub ids: f64,
+    pub gm: f64,
+    pub gds: f64,
+    pub gmbs: f64,
+}
+
+/// The device after an evaluation, what it answers, and the number of the refusal. A refused one answers zeros and the device handed in.
+#[repr(C)]
+#[derive(Clone, Copy, Debug)]
+pub struct EvaluationOutcome {
+    pub refusal: u64,
+    pub answer: AnswerRecord,
+    pub device: DeviceRecord,
+}
+
+/// A noise source: tag 0 none, tag 1 from drain to source with its density; and the number of the refusal.
+#[repr(C)]
+#[derive(Clone, Copy, Debug)]
+pub struct NoiseOutcome {
+    pub refusal: u64,
+    pub tag: u64,
+    pub drain: NodeRecord,
+    pub source: NodeRecord,
+    pub density: f64,
+}
+
+/// A capacitor between two nodes: tag 0 absent, tag 1 present.
+#[repr(C)]
+#[derive(Clone, Copy, Debug)]
+pub struct ReactanceRecord {
+    pub tag: u64,
+    pub pos: NodeRecord,
+    pub neg: NodeRecord,
+    pub capacitance: f64,
+}
+
+#[repr(C)]
+#[derive(Clone, Copy, Debug)]
+pub struct ReactancesOutcome {
+    pub refusal: u64,
+    pub gs: ReactanceRecord,
+    pub gd: ReactanceRecord,
+    pub gb: ReactanceRecord,
+    pub bs: ReactanceRecord,
+    pub bd: ReactanceRecord,
+}

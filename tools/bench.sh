@@ -1,0 +1,11 @@
+#!/bin/sh
+# The benchmark: the port through its library against the published Rust, with the C library's functions and with the port's.
+# FAIRCHILD_SRC names the folder of the published sources. Run from the repository's root; prints tables for docs/PERFORMANCE.md.
+set -e
+: "${FAIRCHILD_SRC:?set FAIRCHILD_SRC to the folder of the published Rust sources}"
+for library in library elementary; do
+    [ -e "target/staticlib/lib$library.a" ] || rt staticlib "$library"
+done
+PORT_LIBS="$(pwd)/target/staticlib"
+export PORT_LIBS
+cargo run --release --offline --quiet --manifest-path bench/Cargo.toml --package bench
