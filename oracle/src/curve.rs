@@ -5,7 +5,7 @@ use std::io::{BufRead, Result, Write};
 use crate::device::{Device, EvalFlags, SimContext};
 use crate::format::{number, Written};
 use crate::mosfet1::Mosfet1;
-use crate::session::at_temperature;
+use crate::runner::at_temperature;
 
 /// vgs and vds of a line of exactly 33 bytes, none under row 9.
 fn voltages(line: &[u8]) -> Option<[f64; 2]> {

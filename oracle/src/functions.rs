@@ -4,7 +4,7 @@ use crate::arithmetic::PortFunctions;
 use crate::format::{method, number, Written};
 use crate::mosfet1::Mosfet1;
 use crate::reactive::{charge_current, ChargeHistory};
-use crate::session::at_temperature;
+use crate::runner::at_temperature;
 use crate::temperature as t;
 
 fn of_floats(name: &[u8], x: &[f64]) -> Option<Vec<f64>> {

@@ -10,14 +10,14 @@ mod curve;
 mod format;
 mod functions;
 mod rows;
-mod session;
+mod runner;
 
 use std::io::{BufRead, Write};
 use std::panic::{catch_unwind, AssertUnwindSafe};
 
 use format::{bytes, column, list, method, node, number, pair, split_at_mark, whole};
 use rows::{Keys, Matrix};
-use session::{Answer, Conditions, Session};
+use runner::{Answer, Conditions, Runner};
 
 /// Keys of the plain form, end to end, with room for every place.
 fn plain_keys(words: &[&[u8]]) -> Option<Keys> {
@@ -60,14 +60,14 @@ fn load_kind(word: &[u8]) -> Option<Option<f64>> {
 }
 
 /// The answer of a command, or None where it is not understood.
-fn answer(session: &mut Session, words: &[&[u8]]) -> Option<String> {
+fn answer(runner: &mut Runner, words: &[&[u8]]) -> Option<String> {
     let made: Answer = match words {
-        [b"card", polarity, keys @ ..] => session.card(one_of(polarity, b"p", b"n")?, &plain_keys(keys)?),
-        [b"cardraw", polarity, keys @ ..] => session.card(one_of(polarity, b"p", b"n")?, &raw_keys(keys)?),
-        [b"geometry", keys @ ..] => session.geometry(&plain_keys(keys)?),
-        [b"geometryraw", keys @ ..] => session.geometry(&raw_keys(keys)?),
-        [b"scale", kelvin] => session.scale(number(kelvin)?),
-        [b"bind", d, g, s, b, first] => session.bind([node(d)?, node(g)?, node(s)?, node(b)?], whole(first)?),
+        [b"card", polarity, keys @ ..] => runner.card(one_of(polarity, b"p", b"n")?, &plain_keys(keys)?),
+        [b"cardraw", polarity, keys @ ..] => runner.card(one_of(polarity, b"p", b"n")?, &raw_keys(keys)?),
+        [b"geometry", keys @ ..] => runner.geometry(&plain_keys(keys)?),
+        [b"geometryraw", keys @ ..] => runner.geometry(&raw_keys(keys)?),
+        [b"scale", kelvin] => runner.scale(number(kelvin)?),
+        [b"bind", d, g, s, b, first] => runner.bind([node(d)?, node(g)?, node(s)?, node(b)?], whole(first)?),
         [b"eval", kind, kelvin, gmin, limiter, how, x] => {
             let conditions = Conditions {
                 transient: one_of(kind, b"tran", b"dc")?,
@@ -76,19 +76,19 @@ fn answer(session: &mut Session, words: &[&[u8]]) -> Option<String> {
                 limiter: one_of(limiter, b"lim", b"nolim")?,
                 method: method(how)?,
             };
-            session.eval(conditions, &list(x, number)?)
+            runner.eval(conditions, &list(x, number)?)
         }
         [b"load", kind, rhs, columns, rows, values] => {
             let matrix =
                 Matrix { columns: list(columns, column)?, rows: list(rows, pair)?, values: list(values, number)? };
-            session.load(load_kind(kind)?, list(rhs, number)?, matrix)
+            runner.load(load_kind(kind)?, list(rhs, number)?, matrix)
         }
-        [b"commit", x] => session.commit(&list(x, number)?),
-        [b"noise", kelvin, freq] => session.noise(number(kelvin)?, number(freq)?),
-        [b"reactances"] => session.reactances(),
-        [b"state"] => Ok(session.state()),
+        [b"commit", x] => runner.commit(&list(x, number)?),
+        [b"noise", kelvin, freq] => runner.noise(number(kelvin)?, number(freq)?),
+        [b"reactances"] => runner.reactances(),
+        [b"state"] => Ok(runner.state()),
         [b"reset"] => {
-            *session = Session::new();
+            *runner = Runner::new();
             Ok("reset".to_string())
         }
         [b"call", name, arguments @ ..] => return functions::call(name, arguments),
@@ -98,7 +98,7 @@ fn answer(session: &mut Session, words: &[&[u8]]) -> Option<String> {
 }
 
 fn script(input: impl BufRead, out: &mut impl Write) -> std::io::Result<()> {
-    let mut session = Session::new();
+    let mut runner = Runner::new();
     for (at, line) in input.split(b'\n').enumerate() {
         let line = line?;
         let words = format::words(&line);
@@ -106,7 +106,7 @@ fn script(input: impl BufRead, out: &mut impl Write) -> std::io::Result<()> {
         if !too_long && (words.is_empty() || line.starts_with(b"#")) {
             continue;
         }
-        let command = AssertUnwindSafe(|| if too_long { None } else { answer(&mut session, &words) });
+        let command = AssertUnwindSafe(|| if too_long { None } else { answer(&mut runner, &words) });
         let Ok(text) = catch_unwind(command) else {
             writeln!(out, "panic")?;
             out.flush()?;

@@ -10,7 +10,7 @@ use crate::rows::{self, Keys, Matrix, Stage, Table};
 
 pub type Answer = Result<String, u8>;
 
-pub struct Session {
+pub struct Runner {
     device: Option<Mosfet1>,
     stage: Stage,
 }
@@ -41,9 +41,9 @@ fn branch(pos: NodeId, neg: NodeId, value: f64) -> String {
     format!(" {}:{}:{}", pos.written(), neg.written(), value.written())
 }
 
-impl Session {
-    pub fn new() -> Session {
-        Session { device: None, stage: Stage::NoDevice }
+impl Runner {
+    pub fn new() -> Runner {
+        Runner { device: None, stage: Stage::NoDevice }
     }
 
     fn view(&self) -> Option<View> {
@@ -59,7 +59,7 @@ impl Session {
     pub fn card(&mut self, is_pmos: bool, keys: &Keys) -> Answer {
         rows::card(keys)?;
         let (device, unknown) = Mosfet1::from_model_params(is_pmos, &keys.named());
-        *self = Session { device: Some(device), stage: Stage::Card };
+        *self = Runner { device: Some(device), stage: Stage::Card };
         Ok(with_places("card", keys, Table::Card, unknown))
     }
 
