@@ -6,7 +6,7 @@ ghost use Rattle.model.specs.Calls.{commitOf};
 ghost use Rattle.in_place.specs.InPlace.{rowOf, deviceOf};
 
 // The row that refuses a commit, or 0.
-pub fn refusal(d: Mosfet1, x: &[f64]) -> u8
+fn refusal(d: Mosfet1, x: &[f64]) -> u8
     ensures { λ r. ⌜ r ≡ rowOf (commitOf d (now (x .entry))) ⌝ }
 {
     let stage = d.stage;
@@ -15,7 +15,7 @@ pub fn refusal(d: Mosfet1, x: &[f64]) -> u8
 }
 
 // The device after a commit, as it was where the commit is refused.
-pub fn device_after(d: Mosfet1, x: &[f64]) -> Mosfet1
+fn device_after(d: Mosfet1, x: &[f64]) -> Mosfet1
     ensures { λ r. ⌜ r ≡ deviceOf d (commitOf d (now (x .entry))) ⌝ }
 {
     match model::calls::commit_timestep(d, x) {
