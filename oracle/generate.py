@@ -2,61 +2,35 @@
 """Random scripts for the comparison with the Rust.
 
   generate.py script SEED LINES    commands of the script format, about LINES of them, with `state` after every call
-  generate.py list SEED LINES      the same with fewer `state`, for a list that is stored
+  generate.py list SEED LINES      the same with fewer `state`, then the fixed lists of the other files here: the list that is stored
   generate.py curve SEED LINES     lines for the program `curve`
 
 The same arguments give the same text. A script is a sequence of devices. Each is given a card, a geometry, a scaling, a binding and then
-a list of evaluations, loads, commits, noises and reactances, with calls out of order, damaged calls and damaged lines in between. Values come from inside the ranges, their ends, the ends' neighbours and the odd numbers of the format.
+a list of evaluations, loads, commits, noises and reactances, with calls out of order, damaged calls and damaged lines in between. Values come
+from inside the ranges, their ends, the ends' neighbours and the odd numbers of the format.
 """
 import math
 import random
 import struct
 import sys
 
-NAN, INF = math.nan, math.inf
-TINY, LEAST_NORMAL = 5e-324, 2.2250738585072014e-308
-ODD = [0.0, -0.0, TINY, -TINY, 1e-310, LEAST_NORMAL, 1e-300, -1e-300, 1e300, 1.7976931348623157e308, -1.7976931348623157e308,
-       INF, -INF, NAN, 1.0, -1.0]
+import elementary_calls
+import load_calls
+import setup_calls
+import temperature_calls
+from words import CARD, GEOMETRY, INF, LEAST_NORMAL, MAY_BE_ZERO, NAN, ODD, TINY, UNREAD, neighbours, number, numbers, pairs, wholes
 
-CARD = {"vto": (-100, 100), "vth0": (-100, 100), "vtho": (-100, 100), "kp": (0, 100), "uo": (0, 1e5), "u0": (0, 1e5), "is": (0, 1),
-        "js": (0, 1e6), "lambda": (0, 10), "gamma": (0, 100), "phi": (0.1, 10), "pb": (0.1, 10), "rd": (1e-6, 1e9), "rs": (1e-6, 1e9),
-        "rsh": (1e-6, 1e6), "kf": (0, 1), "af": (0.25, 4), "cgso": (0, 1), "cgdo": (0, 1), "cgbo": (0, 1), "cox": (0, 1),
-        "tox": (1e-10, 1e-4), "cj": (0, 1), "cjsw": (0, 1), "mj": (0, 0.9), "mjsw": (0, 0.9), "fc": (0, 0.95),
-        "tnom": (-73.15, 226.85)}
 # What cards hold in practice, so that many devices are ordinary ones.
 USUAL = {"vto": (-1.5, 2), "vth0": (-1, 1), "vtho": (-1, 1), "kp": (1e-6, 2e-4), "uo": (100, 800), "u0": (100, 800), "is": (1e-16, 1e-12),
          "js": (1e-9, 1e-3), "lambda": (0, 0.2), "gamma": (0, 2), "phi": (0.3, 1.2), "pb": (0.4, 1.2), "rd": (0.1, 1e3), "rs": (0.1, 1e3),
          "rsh": (1, 100), "kf": (1e-30, 1e-20), "af": (0.5, 2), "cgso": (1e-12, 1e-9), "cgdo": (1e-12, 1e-9), "cgbo": (1e-12, 1e-9),
          "cox": (1e-4, 1e-2), "tox": (1e-9, 1e-7), "cj": (1e-5, 1e-3), "cjsw": (1e-11, 1e-9), "mj": (0.2, 0.6), "mjsw": (0.1, 0.5),
          "fc": (0.2, 0.8), "tnom": (0, 100)}
-GEOMETRY = {"w": (1e-9, 1), "l": (1e-9, 1), "as": (0, 1), "ad": (0, 1), "ps": (0, 1e3), "pd": (0, 1e3), "nrd": (1e-6, 1e6), "nrs": (1e-6, 1e6)}
 USUAL_GEOMETRY = {"w": (1e-6, 1e-4), "l": (1e-7, 1e-5), "as": (1e-13, 1e-10), "ad": (1e-13, 1e-10), "ps": (1e-6, 1e-4), "pd": (1e-6, 1e-4),
                   "nrd": (0.1, 10), "nrs": (0.1, 10)}
-MAY_BE_ZERO = {"rd", "rs", "rsh", "nrd", "nrs"}
-UNREAD = ["nsub", "nss", "nfs", "tpg", "ucrit", "uexp", "utra", "vmax", "xj", "ld", "delta", "theta", "eta", "kappa", "php", "level"]
 UNKNOWN = ["foo", "", "vt", "vto0", "w0", "kpp", "tempo", "m", "z" * 40]
 FUNCTIONS = {"exp": 1, "ln": 1, "ln_1p": 1, "sqrt": 1, "vt": 1, "bandgap_ev": 1, "pbfact": 1, "pow": 2, "mos_junction_is_factor": 2,
              "mobility_factor": 2, "scaled_phi": 3, "junction_cap_factor": 4, "bulk_junction": 4, "scaled_vto": 7}
-
-
-def number(x):
-    return "nan" if x != x else "%016x" % struct.unpack("<Q", struct.pack("<d", x))[0]
-
-
-def numbers(xs):
-    return ",".join(map(number, xs)) if xs else "-"
-
-
-def wholes(xs):
-    return ",".join(map(str, xs)) if xs else "-"
-
-
-def pairs(xs):
-    return ",".join("%d:%d" % p for p in xs) if xs else "-"
-
-
-def neighbours(x):
-    return [math.nextafter(x, -INF), x, math.nextafter(x, INF)]
 
 
 class Script:
@@ -525,6 +499,12 @@ def seldom():
     yield "geometryraw 0 666f6f 0:3 " + number(1.0)
 
 
+def fixed():
+    """Lists that were thought out for one part each."""
+    yield from ["reset", *elementary_calls.calls(), *temperature_calls.calls()]
+    yield from ["reset", *setup_calls.calls(), *load_calls.calls()]
+
+
 def curve(seed, count):
     """Good lines for `curve`; a bad one would end its run."""
     r = random.Random(seed)
@@ -548,7 +528,7 @@ def main():
     if kind == "curve":
         lines = curve(seed, count)
     elif kind == "list":
-        lines = [*seldom(), *Script(seed, 0.06).run(count)]
+        lines = [*seldom(), *Script(seed, 0.06).run(count), *fixed()]
     else:
         lines = Script(seed).run(count)
     sys.stdout.write("".join(line + "\n" for line in lines))

@@ -1,44 +1,15 @@
-#!/usr/bin/env python3
-"""The loads of crates/loading_test and what the Rust answers to them.
-
-  loading_test.py ORACLE
-
-ORACLE is the harness around the published Rust. Each device is brought into its state by calls of the Rust; that state, as the harness tells it, and
-the loads are written to crates/loading_test/stdin, the Rust's answers to the loads to crates/loading_test/stdout.
-"""
-import pathlib
+"""Loads of devices in many states: ground and aliased nodes in each position, each needed cell missing in turn, gaps, empty rows, row 12's
+patterns, alpha's ends, the order of the rows, odd contents, every method."""
 import random
-import struct
-import subprocess
-import sys
 
-CRATE = pathlib.Path(__file__).resolve().parent.parent / "crates" / "loading_test"
-NUMBERS = [
-    "vto kp lambda gamma phi rd_card rs_card rsh is_bulk js kf af tnom polarity cgso cgdo cgbo cox cj cjsw pb mj mjsw fc",
-    "rd rs nrd nrs isat_bs isat_bd w l w_over_l as_ ad ps pd cgs_ov cgd_ov cgb_ov cox_wl cbs_bot cbs_sw cbd_bot cbd_sw",
-    "isat_t_factor pb_t cj_t_factor cjsw_t_factor vto_t kp_t phi_t",
-    "drain_ext source_ext drain gate source bulk",
-    "ids_eval gbs gbd ibs_eq ibd_eq gm gds gmbs jeq vgs_eff_prev vds_eff_prev",
-    "cgs_eval cgd_eval cgb_eval q_gs_eval q_gd_eval q_gb_eval vbs_eval vbd_eval cbs_eval cbd_eval q_bs_eval q_bd_eval",
-]
-NODES = NUMBERS[3].split()
-HISTORIES = ["gs_hist", "gd_hist", "gb_hist", "bs_hist", "bd_hist"]
-METHODS = ["none", "euler", "trap", "gear"]
-STAGES = ["card", "geometry", "scaled", "bound", "evaluated"]
-FAR = 2 ** 64 - 1
-NAN = "7ff8000000000000"
+from words import INF, NAN, number, numbers, pairs, wholes
 
-
-def bits(x):
-    return "%016x" % struct.unpack("<Q", struct.pack("<d", x))[0]
-
-
-def word(n):
-    return "%016x" % n
+FAR = 2**64 - 1
+RANDOM = random.Random(1)
 
 
 class Device:
-    """A device, by the calls that bring the Rust to it, and its loads."""
+    """A device, by the calls that bring it into its state, and its loads."""
 
     def __init__(self, calls, nodes):
         self.calls = calls
@@ -46,7 +17,7 @@ class Device:
         self.loads = []
 
     def load(self, kind, rhs, columns, rows, values):
-        self.loads.append((kind, rhs, columns, rows, values))
+        self.loads.append("load %s %s %s %s %s" % (kind, numbers(rhs), wholes(columns), pairs(rows), numbers(values)))
 
 
 PLAIN = {"vto": 0.7, "kp": 2e-5, "lambda": 0.02, "gamma": 0.4, "phi": 0.65, "cgso": 1e-10, "cgdo": 2e-10, "cgbo": 3e-10, "cox": 1e-3,
@@ -56,21 +27,21 @@ BARE = {"vto": 0.7, "kp": 2e-5}
 NO_OVERLAP = {"vto": 0.7, "kp": 2e-5, "cox": 1e-3}
 SIZE = {"w": 1e-5, "l": 1e-6, "as": 1e-11, "ad": 2e-11, "ps": 1e-5, "pd": 2e-5}
 X = [[1.0, 1.5, 0.1, -0.2, 0.9, 0.15, 0.3, -0.1], [1.1, 1.4, 0.12, -0.25, 0.95, 0.17, 0.2, 0.05]]
-TRAP = "trap:" + bits(1e-9)
-GEAR = "gear:%s:%s" % (bits(1e-9), bits(2e-9))
-EULER = "euler:" + bits(1e-9)
+TRAP = "trap:" + number(1e-9)
+GEAR = "gear:%s:%s" % (number(1e-9), number(2e-9))
+EULER = "euler:" + number(1e-9)
 
 
 def device(card, bind, method, polarity="n", points=X, stage=4):
     """A device after the evaluations at the points, each but the last committed, or stopped at an earlier stage."""
-    keys = lambda d: " ".join("%s=%s" % (k, bits(v)) for k, v in d.items())
-    calls = ["reset", "card %s %s" % (polarity, keys(card)), "geometry " + keys(SIZE), "scale " + bits(300.15)]
+    keys = lambda d: " ".join("%s=%s" % (k, number(v)) for k, v in d.items())
+    calls = ["reset", "card %s %s" % (polarity, keys(card)), "geometry " + keys(SIZE), "scale " + number(300.15)]
     calls.append("bind " + " ".join("-" if n is None else str(n) for n in bind))
     calls = calls[:2 + stage]
     if stage == 4:
         for i, x in enumerate(points):
-            x = ",".join(map(bits, x))
-            calls.append("eval tran %s %s nolim %s %s" % (bits(300.15), bits(1e-12), method, x))
+            x = numbers(x)
+            calls.append("eval tran %s %s nolim %s %s" % (number(300.15), number(1e-12), method, x))
             if i < len(points) - 1:
                 calls.append("commit " + x)
     d, g, s, b, first = bind
@@ -103,11 +74,11 @@ DC = "dc"
 
 
 def tran(alpha):
-    return "tran:" + (NAN if alpha != alpha else bits(alpha))
+    return "tran:" + number(alpha)
 
 
 def contents(n, size):
-    return [bits(random.uniform(-size, size)) for _ in range(n)]
+    return [RANDOM.uniform(-size, size) for _ in range(n)]
 
 
 def add(dev, kind, columns, rows, sides=None, held=None):
@@ -146,8 +117,8 @@ def odd():
     """Contents that are zeros, infinities, NaN or so large that what is added is lost, and a junction far forward, whose offset is a NaN."""
     columns, rows = pattern([(r, c) for r in range(4) for c in range(4)], 4)
     one = device(SERIES, [0, 1, 0, 3, 2], TRAP)
-    for x in (-0.0, 1e300, float("inf")):
-        one.load(tran(5.0), [bits(x)] * 4, columns, rows, [bits(x)] * 16)
+    for x in (-0.0, 1e300, INF):
+        one.load(tran(5.0), [x] * 4, columns, rows, [x] * 16)
     one.load(DC, [NAN] * 4, columns, rows, [NAN] * 16)
     forward = device(PLAIN, [0, 1, 2, 3, 4], EULER, points=[[0.0, 1.0, 0.1, 30.0] + [0.0] * 4])
     add(forward, tran(5.0), columns, rows)
@@ -204,14 +175,14 @@ def order():
     columns, rows = pattern([(r, c) for r in range(4) for c in range(4)], 4)
     bad = [0] * 16
     free = device(PLAIN, [0, 1, 2, 3, 4], "none")
-    for alpha in (1.0, 2.0, 1e16, 0.9999999999999999, 1.0000000000000002e16, 0.0, -1.0, float("inf"), float("nan")):
+    for alpha in (1.0, 2.0, 1e16, 0.9999999999999999, 1.0000000000000002e16, 0.0, -1.0, INF, NAN):
         add(free, tran(alpha), columns, rows)
     add(free, tran(0.5), bad, rows)
     add(free, tran(0.5), bad, rows, sides=3)
     add(free, DC, columns, rows[:3], sides=4)
     add(free, tran(2.0), bad[:3], [(0, 1), (1, 1), (2, 1), (3, 0)])
     stepped = device(PLAIN, [0, 1, 2, 3, 4], GEAR, points=X[1:])
-    add(stepped, tran(float("nan")), columns, rows)
+    add(stepped, tran(NAN), columns, rows)
     early = [device(PLAIN, [0, 1, 2, 3, 4], "none", stage=stage) for stage in range(4)]
     for dev in early:
         add(dev, DC, columns, rows)
@@ -219,59 +190,6 @@ def order():
     return [free, stepped] + early
 
 
-def run(oracle, lines):
-    answers = subprocess.run([oracle], input="\n".join(lines) + "\n", capture_output=True, text=True, check=True).stdout.splitlines()
-    assert len(answers) == len(lines), (len(answers), len(lines))
-    return answers
-
-
-def listed(items):
-    return ",".join(items) or "-"
-
-
-def asked(kind, rhs, columns, rows, values):
-    return "load %s %s %s %s %s" % (kind, listed(rhs), listed(map(str, columns)), listed("%d:%d" % p for p in rows), listed(values))
-
-
-def written(kind, rhs, columns, rows, values):
-    alpha = kind.split(":")[1] if kind != DC else bits(0.0)
-    sizes = [len(rhs), len(columns), len(rows), len(values)]
-    assert all(n <= most for n, most in zip(sizes, (8, 40, 8, 40))), sizes  # the program's arrays
-    return [
-        [word(kind != DC), alpha] + [word(n) for n in sizes], rhs, [word(c) for c in columns], [word(o) for o, _ in rows],
-        [word(n) for _, n in rows], values]
-
-
-def number(text):
-    return NAN if text in ("none", "nan", "-") else text
-
-
-def node(text):
-    return word(FAR if text == "-" else int(text))
-
-
-def state(answer, stage):
-    fields = dict(f.split("=", 1) for f in answer.split()[1:])
-    lines = [[(node if n in NODES else number)(fields[n]) for n in group.split()] for group in NUMBERS]
-    lines += [[number(x) for x in fields[h].split("/")] for h in HISTORIES]
-    method, *steps = fields["disc"].split(":")
-    lines.append([word(METHODS.index(method))] + (steps + [bits(0.0)] * 2)[:2])
-    return lines + [[word(stage)]]
-
-
-def main():
-    random.seed(1)
-    oracle = sys.argv[1]
-    lines, answers = [], []
-    for dev in positions() + odd() + missing() + shapes() + order():
-        told = run(oracle, dev.calls + ["state"] + [asked(*load) for load in dev.loads])
-        n = len(dev.calls)
-        assert not any(a.startswith(("refused", "bad")) for a in told[:n]), told[:n]
-        lines += [[word(len(dev.loads))]] + state(told[n], min(n - 2, 4))
-        lines += [line for load in dev.loads for line in written(*load)]
-        answers += told[n + 1:]
-    (CRATE / "stdin").write_text("".join(" ".join(line) + "\n" for line in lines if line))
-    (CRATE / "stdout").write_text("\n".join(answers) + "\n")
-
-
-main()
+def calls():
+    for made in positions() + odd() + missing() + shapes() + order():
+        yield from [*made.calls, "state", *made.loads]

@@ -1,18 +1,7 @@
-#!/usr/bin/env python3
-"""The list of crates/elementary_test.
-
-  elementary_test.py arguments > crates/elementary_test/stdin
-  elementary_test.py measure < crates/elementary_test/stdout
-
-`arguments` writes the list: every special case, every end of a range with both neighbours, and others at random from a fixed seed.
-`measure` reads the lines that the program wrote for it. A square root must be the exact one, found by whole numbers. The others are held to
-mpmath at 300 digits: a special case must be what the scope paper says, and the largest distance from the exact value is printed for each
-function beside its bound. It exits with 1 where anything is off. `measure` needs mpmath.
-"""
+"""Calls of the elementary functions: every special case, every end of a range with both neighbours, and others at random from a fixed seed."""
 import math
 import random
 import struct
-import sys
 
 
 def bits(x):
@@ -111,105 +100,11 @@ def pow_arguments(rng):
 ARGUMENTS = {"sqrt": sqrt_arguments, "exp": exp_arguments, "ln": ln_arguments, "ln_1p": ln_1p_arguments, "pow": pow_arguments}
 
 
-def arguments():
+def word(b):
+    return "nan" if b == NAN else f"{b:016x}"
+
+
+def calls():
     for name, of in ARGUMENTS.items():
-        seen = set()
-        for a, b in of(random.Random(name)):
-            if (a, b) not in seen:
-                seen.add((a, b))
-                print(f"{name:5} {a:016x} {b:016x}")
-
-
-# ---- the exact values
-
-
-def fraction(b):
-    """a positive finite number as a whole number of 2^-1074"""
-    field, digits = b >> 52, b & (NORMAL - 1)
-    return digits if field == 0 else (digits + NORMAL) << (field - 1)
-
-
-def sqrt_expected(b):
-    if b in (0, SIGN, INF):
-        return b
-    if b > INF:
-        return None
-    square = fraction(b) << 1074  # of the root in units of 2^-1074
-    root = math.isqrt(square)
-    drop = root.bit_length() - 53
-    kept = root >> drop
-    middle = (2 * kept + 1) << drop
-    if middle * middle < 4 * square:
-        kept += 1
-    return (drop << 52) + kept
-
-
-def exact_case(name, a, b):
-    """the bits at an argument where they are fixed, None for NaN, "free" where a bound holds"""
-    x, y = value(a), value(b)
-    if name == "exp":
-        if math.isnan(x):
-            return None
-        return INF if x > 700 else 0 if x < -700 else bits(1.0) if x == 0 else "free"
-    if name == "ln":
-        return 0 if x == 1 else "free" if value(NORMAL) <= x < math.inf else None
-    if name == "ln_1p":
-        return 0 if x == 0 else "free" if 0 < x < math.inf else None
-    if y == 0 or x == 1:
-        return bits(1.0)
-    if x == 0 and y > 0:
-        return 0
-    return "free" if 0 < x < math.inf and abs(y) <= 4 else None
-
-
-def distance(mp, name, a, b, r):
-    """from the exact value, in the terms of the function's bound"""
-    x, y, z = mp.mpf(value(a)), mp.mpf(value(b)), mp.mpf(value(r))
-    if name == "exp":
-        return abs(z / mp.exp(x) - 1)
-    if name == "ln":
-        return abs(z - mp.log(x))
-    if name == "ln_1p":
-        return abs(z - mp.log(1 + x))
-    exact = mp.exp(mp.log(x) * y)
-    if r == INF:
-        return mp.mpf(0) if exact > mp.mpf(2) ** 1000 else mp.inf
-    return mp.mpf(0) if abs(z - exact) <= mp.mpf(2) ** -1000 else abs(z / exact - 1)
-
-
-BOUND = {"exp": -45, "ln": -42, "ln_1p": -42, "pow": -40}
-
-
-def measure():
-    import mpmath as mp
-
-    mp.mp.dps = 300
-    count, largest, bad = {}, {}, 0
-    for line in sys.stdin:
-        name, a, b, r = line.split()
-        a, b, r = int(a, 16), int(b, 16), None if r == "nan" else int(r, 16)
-        count[name] = count.get(name, 0) + 1
-        want = sqrt_expected(a) if name == "sqrt" else exact_case(name, a, b)
-        if want != "free":
-            ok = r == want
-        elif r is None:
-            ok = False
-        else:
-            d = distance(mp, name, a, b, r)
-            ok = d <= mp.mpf(2) ** BOUND[name]
-            if d > largest.get(name, (0, ""))[0]:
-                largest[name] = (d, line.strip())
-        if not ok:
-            bad += 1
-            print("off:", line.strip(), "" if want == "free" else want)
-    for name in ARGUMENTS:
-        if name in largest:
-            d, line = largest[name]
-            print(f"{name}: {count[name]} arguments, at most 2^{float(mp.log(d, 2)):.2f} (bound 2^{BOUND[name]}), at {line}")
-        else:
-            print(f"{name}: {count.get(name, 0)} arguments, exact")
-    sys.exit(bad > 0)
-
-
-if __name__ == "__main__":
-    {"arguments": arguments, "measure": measure}[sys.argv[1]]()
+        for a, b in dict.fromkeys(of(random.Random(name))):
+            yield f"call {name} {word(a)}" + (f" {word(b)}" if name == "pow" else "")
