@@ -1,8 +1,8 @@
 -- The whole part of x * 2^53 by the bits of x: the digits, shifted to their place. Assumes nothing.
 use mathlib.Core.Path.{_≡_, refl, sym, ap, _∙_, subst}
 use mathlib.Core.Bool.{Bool, true, false, cond, not}
-use Prim.Native.Nat.{ℕ, zero, suc, _+_, _-_, _*_, _/_, _%_, _^_, _≤_, _<_}
-use native.Mathlib.Nat.{le-trans, le-of-eq, le-of-lt, lt-of-le-of-lt, lt-of-lt-of-le, lt-of-not-le, not-le-of-lt, lt-irrefl, mul-assoc, mul-comm, mul-right-comm, mul-one, one-mul, mul-le-mul-right, mul-le-mul-left, mul-pos, zero-mul, le-of-mul-le-mul-right, le-add-left, div-eq-of-lt, mod-lt}
+use Prim.Native.Nat.{ℕ, _+_, _-_, _*_, _/_, _%_, _^_, _≤_, _<_}
+use native.Mathlib.Nat.{le-trans, le-of-eq, lt-of-le-of-lt, lt-of-lt-of-le, lt-of-not-le, not-le-of-lt, mul-assoc, mul-comm, mul-right-comm, mul-one, one-mul, mul-le-mul-right, mul-pos, zero-mul, le-of-mul-le-mul-right, le-add-left, div-eq-of-lt, mod-lt}
 use native.Mathlib.Decide.{decLe}
 use native.Mathlib.Omega.{arith}
 use lib.IntN.{pos}
@@ -47,6 +47,22 @@ under-infinity nan p = absurd p
 under-infinity (inf s) p = absurd p
 under-infinity (fin true m e) p = absurd p
 under-infinity (fin false m e) p = refl
+
+-- below the least
+pub under-least : (x : Float) → T (positive x) → le least x ≡ false → num x * 2 ^ 53 < den x
+unfolding ofBits
+under-least x p g = either (decLe (1 * den x) (num x * 2 ^ 53))
+  where
+    either : Dec (1 * den x ≤ num x * 2 ^ 53) → num x * 2 ^ 53 < den x
+    either (yes h) = absurd (subst T g (cross→le least x tt p h))
+    either (no n) = lt-of-lt-of-le (lt-of-not-le n) (le-of-eq (one-mul (den x)))
+
+pub under-greatest : (x : Float) → T (positive x) → le least x ≡ false → T (le x greatest)
+unfolding ofBits
+under-greatest x p g = cross→le x greatest p tt (few (num x) (den x) (under-least x p g))
+  where
+    few : (n d : ℕ) → n * 2 ^ 53 < d → n * 1 ≤ 700 * d
+    few n d h = omega arith
 
 -- a number in units of 2^-1074
 join : (j : ℕ) → j ≤ 1074 → j + (1074 - j) ≡ 1074
@@ -115,12 +131,7 @@ module _ (x : Float) (f : T (fits binary64 x)) (p : T (positive x)) (q : T (le x
 
   -- below the least there is no whole part
   pub none : le least x ≡ false → 0 ≡ fixedOf x
-  unfolding ofBits
-  none g = sym (whole-part x f p q ∙ either (decLe (1 * den x) (num x * 2 ^ 53)))
-    where
-      either : Dec (1 * den x ≤ num x * 2 ^ 53) → num x * 2 ^ 53 / den x ≡ 0
-      either (yes h) = absurd (subst T g (cross→le least x tt p h))
-      either (no n) = div-eq-of-lt (lt-of-lt-of-le (lt-of-not-le n) (le-of-eq (one-mul (den x))))
+  none g = sym (whole-part x f p q ∙ div-eq-of-lt (under-least x p g))
 
   module _ (r : T (le least x)) where
     pub exponent-ge : 970 ≤ e
