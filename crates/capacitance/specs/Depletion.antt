@@ -2,7 +2,7 @@
 use mathlib.Core.Bool.{cond}
 use lib.Ieee.{Float, neg}
 use Rattle.exact.specs.Float64.{_⊕_, _⊖_, _⊗_, _⊘_, _<f_, _=f_, +0, +1}
-use Rattle.elementary.specs.Functions.{powOf}
+use Rattle.elementary.specs.Functions.{Log, powFrom, powOf}
 use Rattle.float.specs.Constants.{two}
 use Rattle.capacitance.specs.declared.Grading.{Grading}
 
@@ -44,3 +44,10 @@ qDeplOf g bot sw v =
 -- the base of the powers: 1 - v / pb, and 1 - fc from fc pb on
 unfoldable pub baseOf : Float → Float → Float → Float
 baseOf fc pb v = cond (v <f fc ⊗ pb) (+1 ⊖ v ⊘ pb) (+1 ⊖ fc)
+
+-- capacitance and charge below fc pb by the logarithm of the base
+unfoldable pub cjBelowFrom : Log → Float → Float → Float
+cjBelowFrom l c0 m = cond (c0 =f +0) +0 (c0 ⊗ powFrom l (neg m))
+
+unfoldable pub qBelowFrom : Log → Float → Float → Float → Float
+qBelowFrom l pb c0 m = cond (c0 =f +0) +0 (c0 ⊗ pb ⊘ (+1 ⊖ m) ⊗ (+1 ⊖ powFrom l (+1 ⊖ m)))

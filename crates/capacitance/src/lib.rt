@@ -4,9 +4,11 @@ use elementary::Log;
 use elementary::log_of;
 use elementary::pow_of;
 ghost use mathlib.Core.Path.{_≡_};
+ghost use mathlib.Core.Bool.{cond};
+ghost use Rattle.exact.specs.Float64.{_⊕_, _⊖_, _=f_, +0, +1};
 ghost use Rattle.elementary.specs.Functions.{logOf};
 ghost use Rattle.capacitance.specs.Meyer.{meyerOf};
-ghost use Rattle.capacitance.specs.Depletion.{baseOf, cjDeplMOf, qDeplMOf, cjDeplOf, qDeplOf};
+ghost use Rattle.capacitance.specs.Depletion.{baseOf, cjAboveOf, qAboveOf, qDeplMOf, cjBelowFrom, qBelowFrom, cjDeplOf, qDeplOf};
 
 // The channel's capacitance as shared among gate-source, gate-drain and gate-bulk.
 pub struct GateShares {
@@ -58,24 +60,6 @@ fn base(fc: f64, pb_t: f64, v: f64) -> f64
     1.0 - fc
 }
 
-// The bottom's or the sidewall's capacitance, by the logarithm of the base.
-fn cj_depl_m(l: Log, fc: f64, pb_t: f64, c0: f64, v: f64, m: f64) -> f64
-    requires { ⌜ l ≡ logOf (baseOf fc «pb_t» v) ⌝ }
-    ensures { λ r. ⌜ r ≡ cjDeplMOf fc «pb_t» c0 v m ⌝ }
-{
-    if c0 == 0.0 {
-        return 0.0;
-    }
-    let fc_pb = fc * pb_t;
-    if v < fc_pb {
-        let p = pow_of(l, -m);
-        c0 * p
-    } else {
-        let k = pow_of(l, 1.0 + m);
-        c0 / k * (1.0 - fc * (1.0 + m) + m * v / pb_t)
-    }
-}
-
 // The bottom's or the sidewall's charge, by the logarithm of the base.
 fn q_depl_m(l: Log, fc: f64, pb_t: f64, c0: f64, v: f64, m: f64) -> f64
     requires { ⌜ l ≡ logOf (baseOf fc «pb_t» v) ⌝ }
@@ -102,6 +86,42 @@ pub struct Depletion {
     pub q: f64,
 }
 
+// The bottom's or the sidewall's below fc pb, by the logarithm of the base.
+fn depl_below(l: Log, pb_t: f64, c0: f64, m: f64) -> Depletion
+    ensures { λ r. ⌜ (r .c ≡ cjBelowFrom l c0 m) × (r .q ≡ qBelowFrom l «pb_t» c0 m) ⌝ }
+{
+    if c0 == 0.0 {
+        return Depletion { c: 0.0, q: 0.0 };
+    }
+    let n = pow_of(l, -m);
+    let p = pow_of(l, 1.0 - m);
+    Depletion {
+        c: c0 * n,
+        q: c0 * pb_t / (1.0 - m) * (1.0 - p),
+    }
+}
+
+// The same from fc pb on, where both take the power 1 + m.
+fn depl_above(l: Log, fc: f64, pb_t: f64, c0: f64, v: f64, m: f64) -> Depletion
+    requires { ⌜ l ≡ logOf (+1 ⊖ fc) ⌝ }
+    ensures { λ r. ⌜ (r .c ≡ cond (c0 =f +0) +0 (cjAboveOf fc «pb_t» c0 v m)) × (r .q ≡ cond (c0 =f +0) +0 (qAboveOf fc «pb_t» c0 v m)) ⌝ }
+{
+    if c0 == 0.0 {
+        return Depletion { c: 0.0, q: 0.0 };
+    }
+    let p = pow_of(l, 1.0 - m);
+    let k = pow_of(l, 1.0 + m);
+    let fc_pb = fc * pb_t;
+    let at_fc_pb = c0 / k;
+    let f2 = 1.0 - fc * (1.0 + m);
+    let dv = v - fc_pb;
+    let q = c0 * pb_t / (1.0 - m) * (1.0 - p);
+    Depletion {
+        c: at_fc_pb * (f2 + m * v / pb_t),
+        q: q + at_fc_pb * (f2 * dv + m / (2.0 * pb_t) * (v * v - fc_pb * fc_pb)),
+    }
+}
+
 // Both by one logarithm, which is not taken where the junction has no capacitance.
 pub fn cj_and_q_depl(g: Grading, bot: f64, sw: f64, v: f64) -> Depletion
     ensures { λ r. ⌜ (r .c ≡ cjDeplOf g bot sw v) × (r .q ≡ qDeplOf g bot sw v) ⌝ }
@@ -119,14 +139,25 @@ pub fn cj_and_q_depl(g: Grading, bot: f64, sw: f64, v: f64) -> Depletion
             return Depletion { c: 0.0, q: 0.0 };
         }
     }
-    let l = log_of(base(fc, pb_t, v));
-    let cj_bottom = cj_depl_m(l, fc, pb_t, bottom, v, mj);
-    let cj_sidewall = cj_depl_m(l, fc, pb_t, sidewall, v, mjsw);
-    let q_bottom = q_depl_m(l, fc, pb_t, bottom, v, mj);
-    let q_sidewall = q_depl_m(l, fc, pb_t, sidewall, v, mjsw);
+    if v < fc * pb_t {
+        let l = log_of(1.0 - v / pb_t);
+        let b = depl_below(l, pb_t, bottom, mj);
+        let s = depl_below(l, pb_t, sidewall, mjsw);
+        return both(b, s);
+    }
+    let l = log_of(1.0 - fc);
+    let b = depl_above(l, fc, pb_t, bottom, v, mj);
+    let s = depl_above(l, fc, pb_t, sidewall, v, mjsw);
+    both(b, s)
+}
+
+// The sum of bottom and sidewall.
+fn both(b: Depletion, s: Depletion) -> Depletion
+    ensures { λ r. ⌜ (r .c ≡ b .c ⊕ s .c) × (r .q ≡ b .q ⊕ s .q) ⌝ }
+{
     Depletion {
-        c: cj_bottom + cj_sidewall,
-        q: q_bottom + q_sidewall,
+        c: b.c + s.c,
+        q: b.q + s.q,
     }
 }
 

@@ -2,13 +2,13 @@
 use mathlib.Core.Path.{_≡_, refl, sym, ap, _∙_, subst}
 use mathlib.Core.Bool.{true, false, _&&_}
 use Prim.Native.Nat.{ℕ, zero, suc, _+_, _-_, _*_, _/_, _%_, _^_, _≤_, _<_}
-use native.Mathlib.Nat.{le-trans, le-of-eq, le-of-lt, lt-of-le-of-lt, lt-of-lt-of-le, zero-lt-suc, mul-assoc, mul-comm, mul-right-comm, mul-one, one-mul, mul-pos, mul-le-mul-right, le-add-right, mul-lt-mul-of-pos-right, div-mul-le-self, div-le-of-le-mul, lt-div-mul-add, add-mul, min-eq-left, sub-add-cancel, lt-of-not-le, not-le-of-lt, le-of-mul-le-mul-right, lt-of-mul-lt-mul-right}
+use native.Mathlib.Nat.{le-trans, le-of-eq, le-of-lt, lt-of-le-of-lt, zero-lt-suc, mul-assoc, mul-comm, mul-right-comm, mul-one, one-mul, mul-pos, mul-le-mul-right, div-mul-le-self, div-le-of-le-mul, lt-div-mul-add, add-mul, min-eq-left, sub-add-cancel, lt-of-not-le, not-le-of-lt, le-of-mul-le-mul-right}
 use native.Mathlib.Decide.{decLe}
 use native.Mathlib.Omega.{arith}
 use lib.IntN.{ℤ, pos, negsuc}
-use lib.Dec.{T, leb, ltb, eqb, ltb→lt, leb→le, lt→ltb, lit<, lit≤}
+use lib.Dec.{T, leb, ltb, eqb, ltb→lt, leb→le, lit<, lit≤}
 use lib.Pow.{pow-pos, pow-add, pow-lt}
-use lib.Ieee.{Float, nan, inf, fin, binary64, up, down, fits, le, lt, mul, round, toUnsigned, ofBits}
+use lib.Ieee.{Float, nan, inf, fin, binary64, up, down, fits, le, mul, round, toUnsigned, ofBits}
 use lib.Ieee.Fits.{and-l, and-r}
 use lib.Ieee.Exact.{HasValue, round-exact}
 use lib.Ieee.Nearest.{div-same}
@@ -49,16 +49,6 @@ down-pos (negsuc k) = pow-pos (suc k)
 
 bounded : (n d y : ℕ) → 0 < d → n * 1 ≤ 700 * d → n * 2 ^ 1127 ≡ y * d → y < 2 ^ 2098
 bounded n d y h v e = lt-of-le-of-lt (le-of-mul-le-mul-right {k = d} (le-trans (le-of-eq (sym e)) (le-trans (mul-le-mul-right (2 ^ 1127) (le-trans (le-of-eq (sym (mul-one n))) v)) (le-of-eq (mul-right-comm 700 d (2 ^ 1127))))) h) (lit< {m = 700 * 2 ^ 1127} {n = 2 ^ 2098} tt)
-
-small-value : (n d a b : ℕ) → 0 < b → 0 < d → a ≤ 700 * b → n * b ≡ a * 2 ^ 53 * d → n < 2 ^ 64 * d
-small-value n d a b h k v e =
-    lt-of-mul-lt-mul-right b
-    (lt-of-le-of-lt (le-of-eq e)
-    (lt-of-le-of-lt (mul-le-mul-right d (mul-le-mul-right (2 ^ 53) v))
-    (lt-of-le-of-lt (le-of-eq (sort b d)) (lt-of-lt-of-le (mul-lt-mul-of-pos-right (lit< {m = 700 * 2 ^ 53} {n = 2 ^ 64} tt) (mul-pos k h)) (le-of-eq (sym (mul-assoc (2 ^ 64) d b)))))))
-  where
-    sort : (b d : ℕ) → 700 * b * 2 ^ 53 * d ≡ 700 * 2 ^ 53 * (d * b)
-    sort b d = ap (λ (z : ℕ). z * d) (mul-right-comm 700 b (2 ^ 53)) ∙ mul-assoc (700 * 2 ^ 53) b d ∙ ap (λ (z : ℕ). 700 * 2 ^ 53 * z) (mul-comm b d)
 
 module _ (x : Float) (f : T (fits binary64 x)) (p : T (positive x)) (q : T (le x greatest)) where
   value-le : num x * 1 ≤ 700 * den x
@@ -110,20 +100,6 @@ module _ (x : Float) (f : T (fits binary64 x)) (p : T (positive x)) (q : T (le x
   -- the number in hand, and the bounds on the argument that the mathematics takes
   pub bounds : (r : ℕ) → r ≡ toUnsigned 64 (mul binary64 x unit) → (r ≤ 700 * 2 ^ 53) × (r * den x ≤ num x * 2 ^ 53) × (num x * 2 ^ 53 ≤ (r + 1) * den x)
   bounds r e = subst (λ (z : ℕ). (z ≤ 700 * 2 ^ 53) × (z * den x ≤ num x * 2 ^ 53) × (num x * 2 ^ 53 ≤ (z + 1) * den x)) (sym (e ∙ whole-part)) (quotient-700, div-mul-le-self (num x * 2 ^ 53) (den x), le-trans (le-of-lt (lt-div-mul-add {a = num x * 2 ^ 53} {b = den x} (den-pos x))) (le-of-eq (sym (add-mul (num x * 2 ^ 53 / den x) 1 (den x) ∙ ap (λ (z : ℕ). num x * 2 ^ 53 / den x * den x + z) (one-mul (den x))))))
-
-  -- what the cast to a whole number asks
-  limits-of : (y : Float) → HasValue y false (num x * 2 ^ 53) (den x * 1) → T (lt (fin true 1 (pos 0)) y) × T (lt y (fin false 1 (pos 64)))
-  unfolding lt
-  limits-of nan v = absurd v
-  limits-of (inf s) v = absurd v
-  limits-of (fin true m e) v = absurd (subst T (v .0) tt)
-  limits-of (fin false m e) v = (
-    lt→ltb 0 (1 * 1 * down e + m * up e * 1) (lt-of-lt-of-le (down-pos e) (le-trans (le-of-eq (sym (one-mul (down e)))) (le-add-right (1 * 1 * down e) (m * up e * 1)))),
-    lt→ltb (m * up e * 1) (1 * 2 ^ 64 * down e) (lt-of-le-of-lt (le-of-eq (mul-one (m * up e))) (small-value (m * up e) (down e) (num x) (den x) (den-pos x) (down-pos e) (le-trans (le-of-eq (sym (mul-one (num x)))) value-le) (ap (λ (z : ℕ). m * up e * z) (sym (mul-one (den x))) ∙ v .1))),
-  )
-
-  pub limits : T (lt (fin true 1 (pos 0)) (mul binary64 x unit)) × T (lt (mul binary64 x unit) (fin false 1 (pos 64)))
-  limits = limits-of (mul binary64 x unit) (subst (λ (y : Float). HasValue y false (num x * 2 ^ 53) (den x * 1)) (sym product) exactly)
 
 -- ---- in exact values
 pub fixed-bounds : (x : Float) → T (fits binary64 x) → T (positive x) → T (le x greatest) → (fixedOf x ≤ 700 * 2 ^ 53) × (fixedOf x // 2 ^ 53 ≤q value x) × (value x ≤q (fixedOf x + 1) // 2 ^ 53)

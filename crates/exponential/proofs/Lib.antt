@@ -13,6 +13,8 @@ pub mod Relative
 pub mod FixedPoint
 pub mod Reciprocal
 pub mod Ranges
+pub mod PositiveBits
 pub mod Cutting
+pub mod WholeDigits
 pub mod Accuracy
 pub mod Sizes

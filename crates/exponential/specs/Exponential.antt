@@ -6,9 +6,12 @@ use lib.Ieee.{Float, nan, inf, binary64, ofBits, toUnsigned, neg}
 use Rattle.exact.specs.Float64.{_⊗_, _⊘_, _<f_, _=f_, +0, +1}
 use Rattle.exponential.specs.Mantissa.{mantOf}
 
--- 700.0, and 9007199254740992.0 = 2^53
+-- 700.0, 2^-53, and 9007199254740992.0 = 2^53
 abbrev pub greatest : Float
 greatest = ofBits binary64 0x4085_e000_0000_0000
+
+abbrev pub least : Float
+least = ofBits binary64 0x3ca0_0000_0000_0000
 
 abbrev pub unit : Float
 unit = ofBits binary64 0x4340_0000_0000_0000

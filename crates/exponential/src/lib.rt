@@ -6,10 +6,11 @@ ghost use lib.Dec.{T};
 ghost use lib.Ieee.{binary64, ofBits, le};
 ghost use lib.Ieee.Positive.{positive};
 ghost use Rattle.exponential.specs.Mantissa.{expTable, mantOf};
-ghost use Rattle.exponential.specs.Exponential.{patternOf, expFixed, fixedOf, expAbove, expOf, greatest};
+ghost use Rattle.exponential.specs.Exponential.{patternOf, expFixed, fixedOf, expAbove, expOf, least, greatest};
 use wide::mulhi;
 
 // e^(j / 32) in units of 2^-63, rounded down. A match, which LLVM makes a table of: a constant array is stored anew at each call.
+// j has five bits where it is called. Arms for all 32 numbers, the last of another value, spare the test of j.
 fn exp_tab(j: u64) -> u64
     requires { ⌜ j < 23 ⌝ }
     ensures { λ r. ⌜ r ≡ getD expTable j 0 ⌝ }
@@ -37,7 +38,8 @@ fn exp_tab(j: u64) -> u64
         19 => 0xe7c72ec23ac545bf,
         20 => 0xef22aefc071e02e5,
         21 => 0xf6b9f9206e0a0fc3,
-        _ => 0xfe8ef30c17c644e9,
+        22..=30 => 0xfe8ef30c17c644e9,
+        _ => 0,
     }
 }
 
@@ -66,12 +68,24 @@ pub fn mant(r: u64) -> u64
     (b >> 1) + mulhi(b, p)
 }
 
+// The whole part of x * 2^53, where that is not 0: the digits of x's pattern, shifted to their place.
+pub fn whole_part(x: f64) -> u64
+    requires { ⌜ T (le least x) × T (le x greatest) ⌝ }
+    ensures { λ r. ⌜ r ≡ fixedOf x ⌝ }
+{
+    let bits = f64::to_bits(x);
+    (((bits & 0xf_ffff_ffff_ffff) + 0x10_0000_0000_0000) * 2048) >> (1033 - (bits >> 52))
+}
+
 // The whole part of x * 2^53.
 fn fixed(x: f64) -> u64
     requires { ⌜ T (positive x) × T (le x greatest) ⌝ }
     ensures { λ r. ⌜ r ≡ fixedOf x ⌝ }
 {
-    std::num::truncating_f64_to_u64(x * 9007199254740992.0)
+    if x >= 0.00000000000000011102230246251565 {
+        return whole_part(x);
+    }
+    0
 }
 
 // m * 2^(k - 62), cut to 53 digits.
@@ -79,11 +93,8 @@ fn assembled(m: u64, k: u64) -> f64
     requires { ⌜ (2 ^ 62 ≤ m) × (k ≤ 1010) ⌝ }
     ensures { λ r. ⌜ r ≡ ofBits binary64 (patternOf m k) ⌝ }
 {
-    if m < 0x8000_0000_0000_0000 {
-        f64::from_bits((k + 1022) * 0x10_0000_0000_0000 + (m >> 10))
-    } else {
-        f64::from_bits((k + 1023) * 0x10_0000_0000_0000 + (m >> 11))
-    }
+    let high = m >> 63;
+    f64::from_bits((k + 1022 + high) * 0x10_0000_0000_0000 + (m >> (10 + high)))
 }
 
 // e^(x / 2^53) = 2^k e^r, with r in units of 2^-64.

@@ -1,4 +1,4 @@
--- What the tests of `raised` say of an exponent. Assumes nothing.
+-- What the tests of an exponent say of it. Assumes nothing.
 use mathlib.Core.Path.{_≡_, sym, ap, subst}
 use mathlib.Core.Bool.{Bool, true, false, not}
 use Prim.Native.Nat.{ℕ, zero, suc, _+_, _*_, _^_, _≤_, _<_}
@@ -6,9 +6,10 @@ use native.Mathlib.Nat.{zero-mul, zero-lt-suc, le-trans, le-of-eq, mul-right-com
 use native.Mathlib.Omega.{arith}
 use lib.Dec.{T, ltb→lt, nltb→le, lt→ltb}
 use lib.Ieee.{Float, nan, inf, fin, binary64, fits, lt, le, neg, up, down, ofBits, toUnsigned}
-use lib.Ieee.Positive.{num, den, positive, den-pos, le→cross, cross→le, le-trans-positive}
+use lib.Ieee.Positive.{num, den, positive, den-pos, le→cross, cross→le, above-of-le, between, le-trans-positive}
+use lib.Ieee.Positive as ieee-positive
 use Rattle.exact.specs.Float64.{_⊗_, +0}
-use Rattle.exponential.specs.Exponential.{greatest, unit}
+use Rattle.exponential.specs.Exponential.{least, greatest, unit}
 use Rattle.exponential.proofs.Cutting.{bounds}
 use Rattle.power.specs.Power.{four, minusFour}
 
@@ -47,6 +48,22 @@ below (fin true zero d) e f = absurd (none 0 (0 * up d * 1 + 0 * 1 * down d) (lt
 below (fin true (suc m) d) e f =
     let p = lt→ltb 0 (suc m) (zero-lt-suc m) in
     (p, cross→le (fin false (suc m) d) four p tt (nltb→le (4 * down d) (suc m * up d * 1) (is-not f)))
+
+-- from 2^-53 on and not above 4
+pub at-most-four : (x : Float) → T (le least x) → lt four x ≡ false → T (le x four)
+unfolding lt ofBits
+at-most-four x p f = go x (above-of-le least x tt p) f
+  where
+    go : (x : Float) → T (ieee-positive.above x) → lt four x ≡ false → T (le x four)
+    go nan a f = absurd a
+    go (inf true) a f = absurd a
+    go (inf false) a f = absurd (is-not f)
+    go (fin true m d) a f = absurd a
+    go (fin false m d) a f = cross→le (fin false m d) four a tt (nltb→le (4 * down d) (m * up d * 1) (is-not f))
+
+pub not-below-least : (x : Float) → T (le least x) → T (le x four) → T (positive x)
+unfolding ofBits
+not-below-least x p q = between least x four tt tt p q
 
 pub four-le-greatest : (x : Float) → T (positive x) → T (le x four) → T (le x greatest)
 unfolding ofBits le lt

@@ -2,6 +2,7 @@ pub mod Exponents
 pub mod Products
 pub mod Cores
 pub mod Signs
+pub mod RaisedBySize
 pub mod Accuracy
 pub mod SpecialCases
 pub mod Sizes

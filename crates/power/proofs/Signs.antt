@@ -103,7 +103,7 @@ first′ m u d h k = omega (arith, mul-pos h k)
 not-both : (p : Float) → T (finite p) → lt +0 p ≡ true → lt p +0 ≡ true → ⊥
 not-both p t e f = lt-strict +0 p zero-finite t (subst T (sym e) tt) (lt→≤ p +0 t zero-finite (subst T (sym f) tt))
 
-opposite : (p : Float) → T (finite p) → lt +0 p ≡ true → lt p +0 ≡ false
+pub opposite : (p : Float) → T (finite p) → lt +0 p ≡ true → lt p +0 ≡ false
 opposite p t e = by-test (lt p +0) refl
   where
     by-test : (b : Bool) → lt p +0 ≡ b → b ≡ false
@@ -117,15 +117,15 @@ opposite′ p t e = by-test (lt +0 p) refl
     by-test false f = refl
     by-test true f = absurd (not-both p t f e)
 
-plus-above : (m : ℕ) (d : ℤ) → lt +0 (fin false (suc m) d) ≡ true
+pub plus-above : (m : ℕ) (d : ℤ) → lt +0 (fin false (suc m) d) ≡ true
 unfolding lt ofBits
 plus-above m d = lt-ltb (0 * 1 * down d) (suc m * up d * 1) (first (suc m) (up d) (down d) (zero-lt-suc m) (up-pos d))
 
-minus-below : (m : ℕ) (d : ℤ) → lt (fin true (suc m) d) +0 ≡ true
+pub minus-below : (m : ℕ) (d : ℤ) → lt (fin true (suc m) d) +0 ≡ true
 unfolding lt ofBits
 minus-below m d = lt-ltb 0 (suc m * up d * 1 + 0 * 1 * down d) (first′ (suc m) (up d) (down d) (zero-lt-suc m) (up-pos d))
 
-zero-equal : (s : Bool) (d : ℤ) → eq (fin s zero d) +0 ≡ true
+pub zero-equal : (s : Bool) (d : ℤ) → eq (fin s zero d) +0 ≡ true
 unfolding eq ofBits
 zero-equal s d = zero-level s (0 * up d * 1) (0 * 1 * down d) (none (up d)) (none′ (down d))
   where

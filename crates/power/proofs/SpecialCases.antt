@@ -43,7 +43,7 @@ log-not-positive b e = ap (λ (s : Bool). cond s (cond (b <f inf false) (cond (b
 log-one : (b : Float) → (+0 <f b) ≡ true → (b <f inf false) ≡ true → (b =f +1) ≡ true → logOf b ≡ BaseOne
 log-one b e f g = log-positive b e ∙ (λ i. positive-case b (f i) (g i))
 
-one-anyway : (p : Float) → powFrom BaseOne p ≡ +1
+pub one-anyway : (p : Float) → powFrom BaseOne p ≡ +1
 unfolding powFrom
 one-anyway p = same (p =f +0)
   where

@@ -28,6 +28,13 @@ powerOf t down =
 unfoldable pub productOf : Float → ℕ → ℕ
 productOf p v = hi (fixedOf p * 256) v
 
+-- the size of an exponent, and whether its power is below 1
+abbrev pub sizeOf : Float → Float
+sizeOf p = cond (p <f +0) (neg p) p
+
+abbrev pub downOf : Bool → Float → Bool
+downOf below p = cond (p <f +0) (not below) below
+
 -- the power of a base whose logarithm has the size v, and is negative where the base is below 1
 unfoldable pub raisedOf : ℕ → Bool → Float → Float
 unfolding powerOf productOf

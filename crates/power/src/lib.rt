@@ -1,12 +1,13 @@
 // The power of a positive number: e to the product of the exponent and the base's logarithm, in fixed point.
 ghost use mathlib.Core.Path.{_≡_};
-ghost use Prim.Native.Nat.{_+_, _*_, _/_, _^_, _≤_, _<_};
 ghost use lib.Dec.{T};
-ghost use lib.Ieee.{le};
-ghost use lib.Ieee.Positive.{positive};
-ghost use Rattle.exponential.specs.Exponential.{fixedOf};
-ghost use Rattle.power.specs.Power.{four, productOf, powerOf, raisedOf, zeroTo, powFrom, powOf};
+ghost use mathlib.Core.Bool.{cond};
+ghost use lib.Ieee.{nan, le};
+ghost use Rattle.exact.specs.Float64.{_=f_, +0, +1};
+ghost use Rattle.exponential.specs.Exponential.{least};
+ghost use Rattle.power.specs.Power.{four, productOf, powerOf, sizeOf, downOf, raisedOf, zeroTo, powFrom, powOf};
 use exponential::exp_fixed;
+use exponential::whole_part;
 use logarithm::Log;
 use logarithm::log_of;
 use wide::mulhi;
@@ -28,50 +29,50 @@ fn power(t: u64, down: bool) -> f64
     e
 }
 
-// The whole part of p * 2^53.
-fn fixed(p: f64) -> u64
-    requires { ⌜ T (positive p) × T (le p four) ⌝ }
-    ensures { λ r. ⌜ (r ≡ fixedOf p) × (r ≤ 2 ^ 55) ⌝ }
-{
-    std::num::truncating_f64_to_u64(p * 9007199254740992.0)
-}
-
 // p * v in units of 2^-50, where v is in units of 2^-53.
 fn product(p: f64, v: u64) -> u64
-    requires { ⌜ T (positive p) × T (le p four) ⌝ }
+    requires { ⌜ T (le least p) × T (le p four) ⌝ }
     ensures { λ r. ⌜ r ≡ productOf p v ⌝ }
 {
-    mulhi(fixed(p) * 256, v)
+    mulhi(whole_part(p) * 256, v)
 }
 
-// e^(p * v / 2^53), or e^(-p * v / 2^53) where the base is below 1.
-fn raised(v: u64, below: bool, p: f64) -> f64
-    ensures { λ r. ⌜ r ≡ raisedOf v below p ⌝ }
+fn size(p: f64) -> f64
+    ensures { λ r. ⌜ r ≡ sizeOf p ⌝ }
 {
-    if p > 4.0 {
-        return 0.0 / 0.0;
+    if p < 0.0 { -p } else { p }
+}
+
+// Whether the power is below 1.
+fn down(below: bool, p: f64) -> bool
+    ensures { λ r. ⌜ r ≡ downOf below p ⌝ }
+{
+    if p < 0.0 { !below } else { below }
+}
+
+// e^(p * v / 2^53), or e^(-p * v / 2^53) where the base is below 1. For an exponent below 2^-53 that is 1.
+fn raised(v: u64, below: bool, p: f64) -> f64
+    ensures { λ r. ⌜ r ≡ cond (p =f +0) +1 (raisedOf v below p) ⌝ }
+{
+    let a = size(p);
+    if a >= 0.00000000000000011102230246251565 {
+        if a > 4.0 {
+            return 0.0 / 0.0;
+        }
+        return power(product(a, v), down(below, p));
     }
-    if p < -4.0 {
-        return 0.0 / 0.0;
-    }
-    if p > 0.0 {
-        return power(product(p, v), below);
-    }
-    if p < 0.0 {
-        return power(product(-p, v), !below);
+    if p == p {
+        return 1.0;
     }
     0.0 / 0.0
 }
 
-// The power of the base whose logarithm is l.
+// The power of the base whose logarithm is l. The exponent 0 is tested last: it is rare.
 pub fn pow_of(l: Log, p: f64) -> f64
     ensures { λ r. ⌜ r ≡ powFrom l p ⌝ }
 {
-    if p == 0.0 {
-        return 1.0;
-    }
     match l {
-        Log::Undefined => 0.0 / 0.0,
+        Log::Undefined => undefined_to(p),
         Log::BaseZero => zero_to(p),
         Log::BaseOne => 1.0,
         Log::Above(v) => raised(v, false, p),
@@ -79,10 +80,23 @@ pub fn pow_of(l: Log, p: f64) -> f64
     }
 }
 
-// A zero to the power p, which is not 0.
-fn zero_to(p: f64) -> f64
-    ensures { λ r. ⌜ r ≡ zeroTo p ⌝ }
+// A base without a logarithm, not 0, to the power p.
+fn undefined_to(p: f64) -> f64
+    ensures { λ r. ⌜ r ≡ cond (p =f +0) +1 nan ⌝ }
 {
+    if p == 0.0 {
+        return 1.0;
+    }
+    0.0 / 0.0
+}
+
+// A zero to the power p.
+fn zero_to(p: f64) -> f64
+    ensures { λ r. ⌜ r ≡ cond (p =f +0) +1 (zeroTo p) ⌝ }
+{
+    if p == 0.0 {
+        return 1.0;
+    }
     if p > 0.0 {
         return 0.0;
     }

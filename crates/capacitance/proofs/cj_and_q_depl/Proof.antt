@@ -1,8 +1,8 @@
-use mathlib.Core.Path.{_≡_, ap, _∙_}
+use mathlib.Core.Path.{_∙_}
 use borrow.Author.Needs.{needs}
-use Rattle.elementary.specs.Functions.{logOf}
 use Rattle.capacitance.specs.Depletion.{cjDeplMOf, qDeplMOf, cjDeplOf, qDeplOf}
 use Rattle.capacitance.proofs.NoCapacitance.{both-zero}
+use Rattle.capacitance.proofs.Powers.{cj-below, q-below, cj-above, q-above, sum-of}
 use Rattle.capacitance.proofs.cj_and_q_depl.Statement.{statement}
 use Rattle.capacitance.proofs.cj_and_q_depl.Tie as tie
 
@@ -10,37 +10,60 @@ returns : tie.Need-returns
 unfolding cjDeplOf qDeplOf cjDeplMOf qDeplMOf
 returns c = (both-zero _ _ _ _ (c .before .if1 .taken) (c .if2 .taken), both-zero _ _ _ _ (c .before .if1 .taken) (c .if2 .taken))
 
-base-requires : tie.Need-base-requires
-base-requires c κs = search needs
-
 log-of-requires : tie.Need-log-of-requires
 log-of-requires c κs = search needs
 
-cj-depl-m-requires : tie.Need-cj-depl-m-requires
-cj-depl-m-requires c κs = c .log-of .ensures ∙ ap logOf (c .before .base .ensures)
+depl-below-requires : tie.Need-depl-below-requires
+depl-below-requires c κs = search needs
 
-cj-depl-m-requires-2 : tie.Need-cj-depl-m-requires-2
-cj-depl-m-requires-2 c κs = c .before .log-of .ensures ∙ ap logOf (c .before .before .base .ensures)
+depl-below-requires-2 : tie.Need-depl-below-requires-2
+depl-below-requires-2 c κs = search needs
 
-q-depl-m-requires : tie.Need-q-depl-m-requires
-q-depl-m-requires c κs = c .before .before .log-of .ensures ∙ ap logOf (c .before .before .before .base .ensures)
-
-q-depl-m-requires-2 : tie.Need-q-depl-m-requires-2
-q-depl-m-requires-2 c κs = c .before .before .before .log-of .ensures ∙ ap logOf (c .before .before .before .before .base .ensures)
+both-requires : tie.Need-both-requires
+both-requires c κs = search needs
 
 returns-2 : tie.Need-returns-2
 unfolding cjDeplOf qDeplOf
-returns-2 c = (rw (c .before .before .cj-depl-m2 .ensures, c .before .before .before .cj-depl-m .ensures), rw (c .q-depl-m2 .ensures, c .before .q-depl-m .ensures))
+returns-2 c =
+    let d = c .before .before .before in
+    let l = d .log-of .ensures in
+    let t = d .before .if3 .taken in
+    let b = c .before .before .depl-below .ensures in
+    let s = c .before .depl-below2 .ensures in
+    (sum-of (c .both .ensures .0) (b .0 ∙ cj-below _ _ _ _ _ _ l t) (s .0 ∙ cj-below _ _ _ _ _ _ l t), sum-of (c .both .ensures .1) (b .1 ∙ q-below _ _ _ _ _ _ l t) (s .1 ∙ q-below _ _ _ _ _ _ l t))
+
+log-of-requires-2 : tie.Need-log-of-requires-2
+log-of-requires-2 c κs = search needs
+
+depl-above-requires : tie.Need-depl-above-requires
+depl-above-requires c κs = c .log-of2 .ensures
+
+depl-above-requires-2 : tie.Need-depl-above-requires-2
+depl-above-requires-2 c κs = c .before .log-of2 .ensures
+
+both-requires-2 : tie.Need-both-requires-2
+both-requires-2 c κs = search needs
+
+returns-3 : tie.Need-returns-3
+unfolding cjDeplOf qDeplOf
+returns-3 c =
+    let t = c .before .before .before .before .if3 .left in
+    let b = c .before .before .depl-above .ensures in
+    let s = c .before .depl-above2 .ensures in
+    (sum-of (c .both2 .ensures .0) (cj-above _ _ _ _ _ (b .0) t) (cj-above _ _ _ _ _ (s .0) t), sum-of (c .both2 .ensures .1) (q-above _ _ _ _ _ (b .1) t) (q-above _ _ _ _ _ (s .1) t))
 
 pub cj-and-q-depl-spec : {M : Type 1} → statement M
 cj-and-q-depl-spec =
     tie.close
     (tie.spec
     returns
-    base-requires
     log-of-requires
-    cj-depl-m-requires
-    cj-depl-m-requires-2
-    q-depl-m-requires
-    q-depl-m-requires-2
-    returns-2)
+    depl-below-requires
+    depl-below-requires-2
+    both-requires
+    returns-2
+    log-of-requires-2
+    depl-above-requires
+    depl-above-requires-2
+    both-requires-2
+    returns-3)

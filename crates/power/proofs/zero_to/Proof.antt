@@ -9,8 +9,11 @@ returns : tie.Need-returns
 returns c = cond-yes _ _ _ (c .if1 .taken)
 
 returns-2 : tie.Need-returns-2
+returns-2 c = cond-else _ _ _ _ (c .before .if1 .left) (cond-yes _ _ _ (c .if2 .taken))
+
+returns-3 : tie.Need-returns-3
 unfolding div ofBits
-returns-2 c = cond-else _ _ _ _ (c .if1 .left) refl
+returns-3 c = cond-else _ _ _ _ (c .before .if1 .left) (cond-else _ _ _ _ (c .if2 .left) refl)
 
 pub zero-to-spec : {M : Type 1} → statement M
-zero-to-spec = tie.close (tie.spec returns returns-2)
+zero-to-spec = tie.close (tie.spec returns returns-2 returns-3)
