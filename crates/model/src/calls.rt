@@ -43,6 +43,6 @@ pub fn commit_timestep(d: Mosfet1, x: &[f64]) -> Commit
         return Commit::Refused(row);
     }
     let v = rows::voltages(x, terminals);
-    let e = mosfet1::steps::committed(d, v);
+    let e = commit::committed(d, v);
     Commit::Done(e)
 }

@@ -18,10 +18,10 @@ fn result(letter: u8, a: f64, b: f64, c: f64, d: f64, e: f64, f: f64, g: f64) ->
         b'i' => temperature::mos_junction_is_factor(Kelvin(a), Kelvin(b)),
         b'p' => temperature::pbfact(Kelvin(a)),
         b'm' => temperature::mobility_factor(Kelvin(a), Kelvin(b)),
-        b'f' => temperature::scaled_phi(a, Kelvin(b), Kelvin(c)),
-        b'j' => temperature::scaled_junction_potential(a, Kelvin(b), Kelvin(c)),
-        b'c' => temperature::junction_cap_factor(a, b, Kelvin(c), Kelvin(d)),
-        _ => temperature::scaled_vto(a, b, c, d, Kelvin(e), Kelvin(f), g < 0.0),
+        b'f' => scaling::scaled_phi(a, Kelvin(b), Kelvin(c)),
+        b'j' => scaling::scaled_junction_potential(a, Kelvin(b), Kelvin(c)),
+        b'c' => scaling::junction_cap_factor(a, b, Kelvin(c), Kelvin(d)),
+        _ => scaling::scaled_vto(a, b, c, d, Kelvin(e), Kelvin(f), g < 0.0),
     }
 }
 
