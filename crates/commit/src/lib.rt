@@ -25,18 +25,13 @@ fn committed_histories(
     let vb = v.vb;
     let vs = v.vs;
     let vd = v.vd;
-    let gs = h.gs_hist;
-    let gd = h.gd_hist;
-    let gb = h.gb_hist;
-    let bs = h.bs_hist;
-    let bd = h.bd_hist;
     let q_bs = capacitance::q_depl(grading, geometry.cbs_bot, geometry.cbs_sw, vb - vs);
     let q_bd = capacitance::q_depl(grading, geometry.cbd_bot, geometry.cbd_sw, vb - vd);
-    let gs_hist = reactive::advance(disc, c.cgs_eval * (vg - vs), gs);
-    let gd_hist = reactive::advance(disc, c.cgd_eval * (vg - vd), gd);
-    let gb_hist = reactive::advance(disc, c.cgb_eval * (vg - vb), gb);
-    let bs_hist = reactive::advance(disc, q_bs, bs);
-    let bd_hist = reactive::advance(disc, q_bd, bd);
+    let gs_hist = reactive::advance(disc, c.cgs_eval * (vg - vs), h.gs_hist);
+    let gd_hist = reactive::advance(disc, c.cgd_eval * (vg - vd), h.gd_hist);
+    let gb_hist = reactive::advance(disc, c.cgb_eval * (vg - vb), h.gb_hist);
+    let bs_hist = reactive::advance(disc, q_bs, h.bs_hist);
+    let bd_hist = reactive::advance(disc, q_bd, h.bd_hist);
     Histories {
         gs_hist,
         gd_hist,
@@ -69,27 +64,12 @@ fn committed_point(p: OperatingPoint, pol: f64, v: Voltages) -> OperatingPoint
 pub fn committed(d: Mosfet1, v: Voltages) -> Mosfet1
     ensures { λ r. ⌜ r ≡ committedOf d v ⌝ }
 {
-    let card = d.card;
-    let geometry = d.geometry;
-    let scaled = d.scaled;
-    let terminals = d.terminals;
-    let old_point = d.point;
-    let charges = d.charges;
-    let old_histories = d.histories;
     let disc = d.disc;
-    let stage = d.stage;
-    let grading = charges::grading(card, scaled);
-    let histories = committed_histories(old_histories, disc, charges, geometry, grading, v);
-    let point = committed_point(old_point, card.polarity, v);
-    Mosfet1 {
-        card,
-        geometry,
-        scaled,
-        terminals,
-        point,
-        charges,
-        histories,
-        disc,
-        stage,
-    }
+    let grading = charges::grading(d.card, d.scaled);
+    let histories = committed_histories(d.histories, disc, d.charges, d.geometry, grading, v);
+    let point = committed_point(d.point, d.card.polarity, v);
+    let mut next = d;
+    next.histories = histories;
+    next.point = point;
+    next
 }

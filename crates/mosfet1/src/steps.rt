@@ -28,7 +28,6 @@ fn evaluated_answer(d: Mosfet1, v: Voltages, gmin: f64, limiter: bool) -> Answer
     ensures { λ r. ⌜ r ≡ evaluatedAnswerOf d v gmin limiter ⌝ }
 {
     let card = d.card;
-    let geometry = d.geometry;
     let scaled = d.scaled;
     let point = d.point;
     let pol = card.polarity;
@@ -40,7 +39,7 @@ fn evaluated_answer(d: Mosfet1, v: Voltages, gmin: f64, limiter: bool) -> Answer
         point.vgs_eff_prev,
         point.vds_eff_prev,
     );
-    bias::channel_answer(card, geometry, scaled, v, kept, gmin)
+    bias::channel_answer(card, d.geometry, scaled, v, kept, gmin)
 }
 
 fn evaluated_point(
@@ -68,12 +67,9 @@ fn evaluated_charges(d: Mosfet1, v: Voltages, transient: bool, a: Answer) -> Cha
     ensures { λ r. ⌜ r ≡ evaluatedChargesOf d v transient a ⌝ }
 {
     if transient {
-        let card = d.card;
-        let geometry = d.geometry;
-        let scaled = d.scaled;
-        let shares = charges::gate_shares(a.vgs, a.vds, a.vth, geometry.cox_wl);
-        let grading = charges::grading(card, scaled);
-        return charges::charges_at(geometry, shares, grading, v);
+        let shares = charges::gate_shares(a.vgs, a.vds, a.vth, d.geometry.cox_wl);
+        let grading = charges::grading(d.card, d.scaled);
+        return charges::charges_at(d.geometry, shares, grading, v);
     }
     d.charges
 }
@@ -81,11 +77,9 @@ fn evaluated_charges(d: Mosfet1, v: Voltages, transient: bool, a: Answer) -> Cha
 pub fn evaluate(d: Mosfet1, v: Voltages, transient: bool, k: Conditions) -> Evaluated
     ensures { λ r. ⌜ r ≡ evaluatedOf d v transient k ⌝ }
 {
-    let gmin = k.gmin;
-    let temperature = k.temperature;
     let disc = k.method;
-    let answer = evaluated_answer(d, v, gmin, k.limiter);
-    let point = evaluated_point(d, v, temperature, gmin, answer);
+    let answer = evaluated_answer(d, v, k.gmin, k.limiter);
+    let point = evaluated_point(d, v, k.temperature, k.gmin, answer);
     let charges = evaluated_charges(d, v, transient, answer);
     let card = d.card;
     let geometry = d.geometry;

@@ -86,14 +86,10 @@ fn bind(r: DeviceRecord, n: NodesRecord, first: usize) -> SetupAnswer
     ensures { λ a. ⌜ a ≡ boundBy r n first ⌝ }
 {
     let d = from_record::device_from(r);
-    let drain = n.drain;
-    let gate = n.gate;
-    let source = n.source;
-    let bulk = n.bulk;
-    let to_drain = from_record::node_from(drain);
-    let to_gate = from_record::node_from(gate);
-    let to_source = from_record::node_from(source);
-    let to_bulk = from_record::node_from(bulk);
+    let to_drain = from_record::node_from(n.drain);
+    let to_gate = from_record::node_from(n.gate);
+    let to_source = from_record::node_from(n.source);
+    let to_bulk = from_record::node_from(n.bulk);
     setup::setup_instance(d, to_drain, to_gate, to_source, to_bulk, first)
 }
 

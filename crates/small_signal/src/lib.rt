@@ -73,8 +73,6 @@ pub fn small_signal_reactances(d: Mosfet1) -> Reactances
     if rows::unevaluated(stage) {
         return Reactances::Refused(10);
     }
-    let t = d.terminals;
-    let q = d.charges;
-    let five = reactances_at(t, q);
+    let five = reactances_at(d.terminals, d.charges);
     Reactances::Found(five)
 }

@@ -14,7 +14,7 @@ reactances-at-requires c κs = tt
 
 returns-2 : tie.Need-returns-2
 unfolding reactancesOf
-returns-2 c = rw (← c .before .before .before .before .unevaluated .ensures, c .before .before .before .if1 .left, c .reactances-at .ensures)
+returns-2 c = rw (← c .before .before .unevaluated .ensures, c .before .if1 .left, c .reactances-at .ensures)
 
 pub small-signal-reactances-spec : {M : Type 1} → statement M
 small-signal-reactances-spec =
