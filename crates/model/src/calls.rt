@@ -23,7 +23,7 @@ pub fn eval(d: Mosfet1, x: &[f64], transient: bool, k: Conditions) -> Evaluation
     let stage = d.stage;
     let kelvin = k.temperature;
     let method = k.method;
-    let row = rows::eval_row(stage, d.terminals, x, kelvin.0, k.gmin, method);
+    let row = step_rows::eval_row(stage, d.terminals, x, kelvin.0, k.gmin, method);
     if row != 0 {
         return Evaluation::Refused(row);
     }
@@ -36,7 +36,7 @@ pub fn commit_timestep(d: Mosfet1, x: &[f64]) -> Commit
     ensures { λ r. ⌜ r ≡ commitOf d (now (x .entry)) ⌝ }
 {
     let stage = d.stage;
-    let row = rows::commit_row(stage, d.terminals, x);
+    let row = step_rows::commit_row(stage, d.terminals, x);
     if row != 0 {
         return Commit::Refused(row);
     }

@@ -1,6 +1,6 @@
 use Rattle.rows.specs.Rows.{badStepOf}
-use Rattle.rows.proofs.bad_step.Statement.{statement}
-use Rattle.rows.proofs.bad_step.Tie as tie
+use Rattle.step_rows.proofs.bad_step.Statement.{statement}
+use Rattle.step_rows.proofs.bad_step.Tie as tie
 
 outside-requires : tie.Need-outside-requires
 outside-requires c κs = tt

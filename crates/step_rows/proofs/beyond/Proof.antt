@@ -1,7 +1,7 @@
 use Rattle.rows.specs.Rows.{beyondOf}
 use borrow.Author.Needs.{needs}
-use Rattle.rows.proofs.beyond.Statement.{statement}
-use Rattle.rows.proofs.beyond.Tie as tie
+use Rattle.step_rows.proofs.beyond.Statement.{statement}
+use Rattle.step_rows.proofs.beyond.Tie as tie
 
 enum-told : tie.Need-enum-told
 enum-told c = search needs

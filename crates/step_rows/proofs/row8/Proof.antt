@@ -1,6 +1,6 @@
 use Rattle.rows.specs.Rows.{row8Of}
-use Rattle.rows.proofs.row8.Statement.{statement}
-use Rattle.rows.proofs.row8.Tie as tie
+use Rattle.step_rows.proofs.row8.Statement.{statement}
+use Rattle.step_rows.proofs.row8.Tie as tie
 
 beyond-requires : tie.Need-beyond-requires
 beyond-requires c κs = tt

@@ -1,7 +1,7 @@
 use Rattle.rows.specs.Rows.{unboundOf}
 use borrow.Author.Needs.{needs}
-use Rattle.rows.proofs.unbound.Statement.{statement}
-use Rattle.rows.proofs.unbound.Tie as tie
+use Rattle.step_rows.proofs.unbound.Statement.{statement}
+use Rattle.step_rows.proofs.unbound.Tie as tie
 
 before-requires : tie.Need-before-requires
 before-requires c κs = search needs

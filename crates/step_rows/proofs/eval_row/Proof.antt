@@ -1,6 +1,6 @@
 use Rattle.rows.specs.Rows.{evalRowOf}
-use Rattle.rows.proofs.eval_row.Statement.{statement}
-use Rattle.rows.proofs.eval_row.Tie as tie
+use Rattle.step_rows.proofs.eval_row.Statement.{statement}
+use Rattle.step_rows.proofs.eval_row.Tie as tie
 
 row6-requires : tie.Need-row6-requires
 row6-requires c κs = tt

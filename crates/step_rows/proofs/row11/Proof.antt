@@ -1,7 +1,7 @@
 use Rattle.rows.specs.Rows.{row11Of}
 use borrow.Author.Needs.{needs}
-use Rattle.rows.proofs.row11.Statement.{statement}
-use Rattle.rows.proofs.row11.Tie as tie
+use Rattle.step_rows.proofs.row11.Statement.{statement}
+use Rattle.step_rows.proofs.row11.Tie as tie
 
 enum-told : tie.Need-enum-told
 enum-told c = search needs

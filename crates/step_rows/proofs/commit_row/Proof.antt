@@ -1,8 +1,8 @@
 use mathlib.Core.Path.{sym, _∙_}
 use Rattle.rows.proofs.Reading.{unbound-unevaluated}
 use Rattle.rows.specs.Rows.{commitRowOf}
-use Rattle.rows.proofs.commit_row.Statement.{statement}
-use Rattle.rows.proofs.commit_row.Tie as tie
+use Rattle.step_rows.proofs.commit_row.Statement.{statement}
+use Rattle.step_rows.proofs.commit_row.Tie as tie
 
 unbound-requires : tie.Need-unbound-requires
 unbound-requires c κs = tt
