@@ -1,6 +1,6 @@
 // Reads lines of two floats by their bits, vgs and vds, and prints what the channel of the reference device carries there.
 // A bad line ends the run.
-use channel_curve::Point;
+use curve_text::Point;
 
 // The line that is being read: its first bytes, how many there are (34 stands for more than a good line has), and whether a
 // bad line has ended the run.
@@ -29,7 +29,7 @@ fn point_in(bytes: &[u8], n: usize) -> Point {
 
 fn print_answer(p: Point) {
     let mut out = [0u8; 96];
-    let n = channel_curve::put_answer(&mut out, p);
+    let n = curve_text::put_answer(&mut out, p);
     write_first(&out, n);
 }
 

@@ -2,7 +2,7 @@
 fn show(line: &[u8]) {
     let p = channel_curve::point_of(line);
     let mut out = [0u8; 96];
-    let n = channel_curve::put_answer(&mut out, p);
+    let n = curve_text::put_answer(&mut out, p);
     write_first(&out, n);
 }
 

@@ -203,7 +203,7 @@ pub fn noise(device: Mosfet1, line: &[u8]) -> Reply {
     let Number::Is(freq) = read_number(word(line, 2)) else {
         return Reply::Bad;
     };
-    match model::small_signal::noise_sources(device, Kelvin(kelvin), freq) {
+    match small_signal::noise_sources(device, Kelvin(kelvin), freq) {
         Noise::Quiet => Reply::Quiet,
         Noise::Source(pos, neg, density) => Reply::Noise(pos, neg, density),
         Noise::Refused(row) => Reply::Refused(row),
@@ -212,7 +212,7 @@ pub fn noise(device: Mosfet1, line: &[u8]) -> Reply {
 
 // `reactances`
 pub fn reactances(device: Mosfet1) -> Reply {
-    match model::small_signal::small_signal_reactances(device) {
+    match small_signal::small_signal_reactances(device) {
         Reactances::Found(five) => Reply::Capacitors(five),
         Reactances::Refused(row) => Reply::Refused(row),
     }

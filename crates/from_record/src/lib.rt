@@ -92,16 +92,14 @@ fn stage_from(tag: u64) -> Stage
 fn card_from(r: CardRecord) -> Card
     ensures { λ card. ⌜ card ≡ cardFrom r ⌝ }
 {
-    let rd_card = r.rd_card;
-    let rs_card = r.rs_card;
     Card {
         vto: r.vto,
         kp: r.kp,
         lambda: r.lambda,
         gamma: r.gamma,
         phi: r.phi,
-        rd_card: given_from(rd_card),
-        rs_card: given_from(rs_card),
+        rd_card: given_from(r.rd_card),
+        rs_card: given_from(r.rs_card),
         rsh: r.rsh,
         is_bulk: r.is_bulk,
         js: r.js,
@@ -167,19 +165,13 @@ fn scaled_from(r: ScaledRecord) -> Scaled
 fn terminals_from(r: TerminalsRecord) -> Terminals
     ensures { λ t. ⌜ t ≡ terminalsFrom r ⌝ }
 {
-    let drain_ext = r.drain_ext;
-    let source_ext = r.source_ext;
-    let drain = r.drain;
-    let gate = r.gate;
-    let source = r.source;
-    let bulk = r.bulk;
     Terminals {
-        drain_ext: node_from(drain_ext),
-        source_ext: node_from(source_ext),
-        drain: node_from(drain),
-        gate: node_from(gate),
-        source: node_from(source),
-        bulk: node_from(bulk),
+        drain_ext: node_from(r.drain_ext),
+        source_ext: node_from(r.source_ext),
+        drain: node_from(r.drain),
+        gate: node_from(r.gate),
+        source: node_from(r.source),
+        bulk: node_from(r.bulk),
     }
 }
 
@@ -223,10 +215,9 @@ fn charges_from(r: ChargesRecord) -> Charges
 fn history_from(r: HistoryRecord) -> ChargeHistory
     ensures { λ h. ⌜ h ≡ historyFrom r ⌝ }
 {
-    let q_prev2 = r.q_prev2;
     ChargeHistory {
         q_prev: r.q_prev,
-        q_prev2: given_from(q_prev2),
+        q_prev2: given_from(r.q_prev2),
         i_prev: r.i_prev,
     }
 }
@@ -234,40 +225,27 @@ fn history_from(r: HistoryRecord) -> ChargeHistory
 fn histories_from(r: HistoriesRecord) -> Histories
     ensures { λ h. ⌜ h ≡ historiesFrom r ⌝ }
 {
-    let gs_hist = r.gs_hist;
-    let gd_hist = r.gd_hist;
-    let gb_hist = r.gb_hist;
-    let bs_hist = r.bs_hist;
-    let bd_hist = r.bd_hist;
     Histories {
-        gs_hist: history_from(gs_hist),
-        gd_hist: history_from(gd_hist),
-        gb_hist: history_from(gb_hist),
-        bs_hist: history_from(bs_hist),
-        bd_hist: history_from(bd_hist),
+        gs_hist: history_from(r.gs_hist),
+        gd_hist: history_from(r.gd_hist),
+        gb_hist: history_from(r.gb_hist),
+        bs_hist: history_from(r.bs_hist),
+        bd_hist: history_from(r.bd_hist),
     }
 }
 
 pub fn device_from(r: DeviceRecord) -> Mosfet1
     ensures { λ d. ⌜ d ≡ deviceFrom r ⌝ }
 {
-    let card = r.card;
-    let geometry = r.geometry;
-    let scaled = r.scaled;
-    let terminals = r.terminals;
-    let point = r.point;
-    let charges = r.charges;
-    let histories = r.histories;
-    let method = r.method;
     Mosfet1 {
-        card: card_from(card),
-        geometry: geometry_from(geometry),
-        scaled: scaled_from(scaled),
-        terminals: terminals_from(terminals),
-        point: point_from(point),
-        charges: charges_from(charges),
-        histories: histories_from(histories),
-        disc: method_from(method),
+        card: card_from(r.card),
+        geometry: geometry_from(r.geometry),
+        scaled: scaled_from(r.scaled),
+        terminals: terminals_from(r.terminals),
+        point: point_from(r.point),
+        charges: charges_from(r.charges),
+        histories: histories_from(r.histories),
+        disc: method_from(r.method),
         stage: stage_from(r.stage),
     }
 }

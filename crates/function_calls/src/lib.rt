@@ -52,14 +52,14 @@ fn two_arguments(name: &[u8], x: f64, y: f64) -> Reply {
 
 fn three_arguments(name: &[u8], x: f64, y: f64, z: f64) -> Reply {
     if same(name, b"scaled_phi") {
-        return Reply::One(temperature::scaled_phi(x, Kelvin(y), Kelvin(z)));
+        return Reply::One(scaling::scaled_phi(x, Kelvin(y), Kelvin(z)));
     }
     Reply::Bad
 }
 
 fn four_arguments(name: &[u8], x: f64, y: f64, z: f64, u: f64) -> Reply {
     if same(name, b"junction_cap_factor") {
-        return Reply::One(temperature::junction_cap_factor(x, y, Kelvin(z), Kelvin(u)));
+        return Reply::One(scaling::junction_cap_factor(x, y, Kelvin(z), Kelvin(u)));
     }
     if same(name, b"bulk_junction") {
         let j = junction::bulk_junction(x, y, z, u);
@@ -72,7 +72,7 @@ fn four_arguments(name: &[u8], x: f64, y: f64, z: f64, u: f64) -> Reply {
 fn seven_arguments(name: &[u8], x: [f64; 8]) -> Reply {
     if same(name, b"scaled_vto") {
         let is_pmos = x[6] < 0.0;
-        return Reply::One(temperature::scaled_vto(
+        return Reply::One(scaling::scaled_vto(
             x[0],
             x[1],
             x[2],

@@ -10,8 +10,7 @@ fn refusal(d: Mosfet1, x: &[f64]) -> u8
     ensures { λ r. ⌜ r ≡ rowOf (commitOf d (now (x .entry))) ⌝ }
 {
     let stage = d.stage;
-    let terminals = d.terminals;
-    rows::commit_row(stage, terminals, x)
+    step_rows::commit_row(stage, d.terminals, x)
 }
 
 // The device after a commit, as it was where the commit is refused.

@@ -3,8 +3,8 @@
 // what is answered and what the lent slices hold afterwards.
 use record::DeviceOutcome;
 use record::DeviceRecord;
+use record_card::KeysOutcome;
 use record_setup::CountOutcome;
-use record_setup::KeysOutcome;
 use record_setup::NodesRecord;
 use record_small_signal::NoiseOutcome;
 use record_small_signal::ReactancesOutcome;
@@ -13,7 +13,8 @@ use record_steps::EvaluationOutcome;
 ghost use mathlib.Core.Path.{_≡_};
 ghost use lib.ListN.{length};
 ghost use Rattle.assembly.specs.Assembly.{Pattern};
-ghost use Rattle.record_setup.specs.Setup.{cardCall, cardCallList, geometryCall, geometryCallList, scalingCall, bindingCall, extraNodesCall};
+ghost use Rattle.record_card.specs.Keys.{cardCall, cardCallList, geometryCall, geometryCallList};
+ghost use Rattle.record_setup.specs.Setup.{scalingCall, bindingCall, extraNodesCall};
 ghost use Rattle.record_steps.specs.Steps.{evalCall, commitCall};
 ghost use Rattle.record_small_signal.specs.SmallSignal.{noiseCall, reactancesCall};
 ghost use Rattle.record_loading.specs.Load.{loadCall, loadedSide, loadedMatrix};
@@ -31,7 +32,7 @@ pub extern "C" fn mivtolgya_from_model_params(
     ensures { λ o. ⌜ (o ≡ cardCall old polarity (now (bytes .entry)) (now (offsets .entry)) (now (lengths .entry)) (now (values .entry)) (length (now (unknown .entry))))
         × (now (unknown .exit) ≡ cardCallList polarity (now (bytes .entry)) (now (offsets .entry)) (now (lengths .entry)) (now (values .entry)) (now (unknown .entry))) ⌝ }
 {
-    record_setup::from_model_params(old, polarity, bytes, offsets, lengths, values, unknown)
+    record_card::from_model_params(old, polarity, bytes, offsets, lengths, values, unknown)
 }
 
 #[no_mangle]
@@ -46,7 +47,7 @@ pub extern "C" fn mivtolgya_set_instance_params(
     ensures { λ o. ⌜ (o ≡ geometryCall device (now (bytes .entry)) (now (offsets .entry)) (now (lengths .entry)) (now (values .entry)) (length (now (unknown .entry))))
         × (now (unknown .exit) ≡ geometryCallList device (now (bytes .entry)) (now (offsets .entry)) (now (lengths .entry)) (now (values .entry)) (now (unknown .entry))) ⌝ }
 {
-    record_setup::set_instance_params(device, bytes, offsets, lengths, values, unknown)
+    record_card::set_instance_params(device, bytes, offsets, lengths, values, unknown)
 }
 
 #[no_mangle]

@@ -21,14 +21,13 @@ pub fn eval(d: Mosfet1, x: &[f64], transient: bool, k: Conditions) -> Evaluation
     ensures { λ r. ⌜ r ≡ evalOf d (now (x .entry)) transient k ⌝ }
 {
     let stage = d.stage;
-    let terminals = d.terminals;
     let kelvin = k.temperature;
     let method = k.method;
-    let row = rows::eval_row(stage, terminals, x, kelvin.0, k.gmin, method);
+    let row = step_rows::eval_row(stage, d.terminals, x, kelvin.0, k.gmin, method);
     if row != 0 {
         return Evaluation::Refused(row);
     }
-    let v = rows::voltages(x, terminals);
+    let v = rows::voltages(x, d.terminals);
     let e = mosfet1::steps::evaluate(d, v, transient, k);
     Evaluation::Done(e)
 }
@@ -37,12 +36,11 @@ pub fn commit_timestep(d: Mosfet1, x: &[f64]) -> Commit
     ensures { λ r. ⌜ r ≡ commitOf d (now (x .entry)) ⌝ }
 {
     let stage = d.stage;
-    let terminals = d.terminals;
-    let row = rows::commit_row(stage, terminals, x);
+    let row = step_rows::commit_row(stage, d.terminals, x);
     if row != 0 {
         return Commit::Refused(row);
     }
-    let v = rows::voltages(x, terminals);
-    let e = mosfet1::steps::committed(d, v);
+    let v = rows::voltages(x, d.terminals);
+    let e = commit::committed(d, v);
     Commit::Done(e)
 }

@@ -1,2 +1,3 @@
-// An accepted evaluation and an accepted commit, over the device record (`eval` and `commit_timestep` of mosfet1.rs).
+// An accepted evaluation over the device record (`eval` of mosfet1.rs), and the definitions of an accepted commit, which is in
+// `commit`.
 pub mod steps;

@@ -395,40 +395,28 @@ fn history_record(h: ChargeHistory) -> HistoryRecord
 fn histories_record(h: Histories) -> HistoriesRecord
     ensures { λ r. ⌜ r ≡ historiesRecord h ⌝ }
 {
-    let gs_hist = h.gs_hist;
-    let gd_hist = h.gd_hist;
-    let gb_hist = h.gb_hist;
-    let bs_hist = h.bs_hist;
-    let bd_hist = h.bd_hist;
     HistoriesRecord {
-        gs_hist: history_record(gs_hist),
-        gd_hist: history_record(gd_hist),
-        gb_hist: history_record(gb_hist),
-        bs_hist: history_record(bs_hist),
-        bd_hist: history_record(bd_hist),
+        gs_hist: history_record(h.gs_hist),
+        gd_hist: history_record(h.gd_hist),
+        gb_hist: history_record(h.gb_hist),
+        bs_hist: history_record(h.bs_hist),
+        bd_hist: history_record(h.bd_hist),
     }
 }
 
 pub fn device_record(d: Mosfet1) -> DeviceRecord
     ensures { λ r. ⌜ r ≡ deviceRecord d ⌝ }
 {
-    let card = d.card;
-    let geometry = d.geometry;
-    let scaled = d.scaled;
-    let terminals = d.terminals;
-    let point = d.point;
-    let charges = d.charges;
-    let histories = d.histories;
     let disc = d.disc;
     let stage = d.stage;
     DeviceRecord {
-        card: card_record(card),
-        geometry: geometry_record(geometry),
-        scaled: scaled_record(scaled),
-        terminals: terminals_record(terminals),
-        point: point_record(point),
-        charges: charges_record(charges),
-        histories: histories_record(histories),
+        card: card_record(d.card),
+        geometry: geometry_record(d.geometry),
+        scaled: scaled_record(d.scaled),
+        terminals: terminals_record(d.terminals),
+        point: point_record(d.point),
+        charges: charges_record(d.charges),
+        histories: histories_record(d.histories),
         method: method_record(disc),
         stage: stage_tag(stage),
     }

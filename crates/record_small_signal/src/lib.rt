@@ -76,7 +76,7 @@ pub fn noise_sources(r: DeviceRecord, temperature: f64, freq: f64) -> NoiseOutco
         return noise_refused(100);
     }
     let d = from_record::device_from(r);
-    let a = model::small_signal::noise_sources(d, Kelvin(temperature), freq);
+    let a = small_signal::noise_sources(d, Kelvin(temperature), freq);
     noise_outcome(a)
 }
 
@@ -154,6 +154,6 @@ pub fn small_signal_reactances(r: DeviceRecord) -> ReactancesOutcome
         return reactances_refused(100);
     }
     let d = from_record::device_from(r);
-    let a = model::small_signal::small_signal_reactances(d);
+    let a = small_signal::small_signal_reactances(d);
     reactances_outcome(a)
 }

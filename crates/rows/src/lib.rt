@@ -1,21 +1,11 @@
-// The rows of refusals, and reading the lent voltages.
+// The row that refuses a noise call, and reading the lent voltages. The rows of an evaluation and a commit are in `step_rows`; all
+// of the definitions are here.
 use bias::Voltages;
-use device::Discretisation;
 use device::NodeId;
 use device::Stage;
 use device::Terminals;
 ghost use mathlib.Core.Path.{_≡_};
-ghost use mathlib.Core.Bool.{_||_};
-ghost use Rattle.rows.specs.Rows.{nodeVoltageOf, voltagesOf, outsideOf, row6Of, beyondOf, row8Of, row9Of, unboundOf, unevaluatedOf, badStepOf, row11Of, evalRowOf, commitRowOf, noiseRowOf};
-
-fn either(a: bool, b: bool) -> bool
-    ensures { λ r. ⌜ r ≡ (a || b) ⌝ }
-{
-    if a {
-        return true;
-    }
-    b
-}
+ghost use Rattle.rows.specs.Rows.{nodeVoltageOf, voltagesOf, outsideOf, unevaluatedOf, noiseRowOf};
 
 // What a node is at: 0 at ground.
 fn voltage(x: &[f64], node: NodeId) -> f64
@@ -53,131 +43,10 @@ fn outside(lo: f64, hi: f64, v: f64) -> bool
     !device::within(v, lo, hi)
 }
 
-fn row6(temperature: f64, gmin: f64) -> bool
-    ensures { λ r. ⌜ r ≡ row6Of temperature gmin ⌝ }
-{
-    let a = outside(200.0, 500.0, temperature);
-    let b = outside(0.0, 1.0, gmin);
-    either(a, b)
-}
-
-fn beyond(n: usize, node: NodeId) -> bool
-    ensures { λ r. ⌜ r ≡ beyondOf n node ⌝ }
-{
-    match node {
-        NodeId::Ground => false,
-        NodeId::At(i) => n <= i,
-    }
-}
-
-fn row8(n: usize, t: Terminals) -> bool
-    ensures { λ r. ⌜ r ≡ row8Of n t ⌝ }
-{
-    let drain_ext = t.drain_ext;
-    let source_ext = t.source_ext;
-    let drain = t.drain;
-    let gate = t.gate;
-    let source = t.source;
-    let bulk = t.bulk;
-    let a = beyond(n, drain_ext);
-    let b = either(a, beyond(n, source_ext));
-    let c = either(b, beyond(n, drain));
-    let d = either(c, beyond(n, gate));
-    let e = either(d, beyond(n, source));
-    either(e, beyond(n, bulk))
-}
-
-fn row9(v: Voltages) -> bool
-    ensures { λ r. ⌜ r ≡ row9Of v ⌝ }
-{
-    let a = outside(-1000.0, 1000.0, v.vd);
-    let b = either(a, outside(-1000.0, 1000.0, v.vg));
-    let c = either(b, outside(-1000.0, 1000.0, v.vs));
-    either(c, outside(-1000.0, 1000.0, v.vb))
-}
-
-fn unbound(stage: Stage) -> bool
-    ensures { λ r. ⌜ r ≡ unboundOf stage ⌝ }
-{
-    device::before(stage, Stage::Bound)
-}
-
 pub fn unevaluated(stage: Stage) -> bool
     ensures { λ r. ⌜ r ≡ unevaluatedOf stage ⌝ }
 {
     device::before(stage, Stage::Evaluated)
-}
-
-fn bad_step(h: f64) -> bool
-    ensures { λ r. ⌜ r ≡ badStepOf h ⌝ }
-{
-    outside(1e-15, 1.0, h)
-}
-
-fn row11(disc: Discretisation) -> bool
-    ensures { λ r. ⌜ r ≡ row11Of disc ⌝ }
-{
-    match disc {
-        Discretisation::None => false,
-        Discretisation::Euler(h) => bad_step(h),
-        Discretisation::Trapezoid(h) => bad_step(h),
-        Discretisation::Gear(h, h_prev) => {
-            let a = bad_step(h);
-            let b = bad_step(h_prev);
-            either(a, b)
-        }
-    }
-}
-
-// Before binding rows 8 and 9 do not apply, and row 10 does.
-pub fn eval_row(
-    stage: Stage,
-    t: Terminals,
-    x: &[f64],
-    temperature: f64,
-    gmin: f64,
-    disc: Discretisation,
-) -> u8
-    ensures { λ r. ⌜ r ≡ evalRowOf stage t (now (x .entry)) temperature gmin disc ⌝ }
-{
-    if row6(temperature, gmin) {
-        return 6;
-    }
-    if unbound(stage) {
-        return 10;
-    }
-    let n = x.len();
-    if row8(n, t) {
-        return 8;
-    }
-    let v = voltages(x, t);
-    if row9(v) {
-        return 9;
-    }
-    if row11(disc) {
-        return 11;
-    }
-    0
-}
-
-pub fn commit_row(stage: Stage, t: Terminals, x: &[f64]) -> u8
-    ensures { λ r. ⌜ r ≡ commitRowOf stage t (now (x .entry)) ⌝ }
-{
-    if unbound(stage) {
-        return 10;
-    }
-    let n = x.len();
-    if row8(n, t) {
-        return 8;
-    }
-    let v = voltages(x, t);
-    if row9(v) {
-        return 9;
-    }
-    if unevaluated(stage) {
-        return 10;
-    }
-    0
 }
 
 pub fn noise_row(stage: Stage, temperature: f64) -> u8

@@ -40,14 +40,14 @@ fn scaled_at(card: Card, t: Kelvin) -> Scaled
     ensures { λ r. ⌜ r ≡ scaledAt card (t .0) ⌝ }
 {
     let tnom = card.tnom;
-    let phi_t = temperature::scaled_phi(card.phi, t, tnom);
+    let phi_t = scaling::scaled_phi(card.phi, t, tnom);
     let is_pmos = card.polarity < 0.0;
-    let vto_t = temperature::scaled_vto(card.vto, card.gamma, card.phi, phi_t, t, tnom, is_pmos);
+    let vto_t = scaling::scaled_vto(card.vto, card.gamma, card.phi, phi_t, t, tnom, is_pmos);
     Scaled {
         isat_t_factor: temperature::mos_junction_is_factor(t, tnom),
-        pb_t: temperature::scaled_junction_potential(card.pb, t, tnom),
-        cj_t_factor: temperature::junction_cap_factor(card.pb, card.mj, t, tnom),
-        cjsw_t_factor: temperature::junction_cap_factor(card.pb, card.mjsw, t, tnom),
+        pb_t: scaling::scaled_junction_potential(card.pb, t, tnom),
+        cj_t_factor: scaling::junction_cap_factor(card.pb, card.mj, t, tnom),
+        cjsw_t_factor: scaling::junction_cap_factor(card.pb, card.mjsw, t, tnom),
         vto_t,
         kp_t: card.kp * temperature::mobility_factor(t, tnom),
         phi_t,

@@ -2,6 +2,9 @@ use Prim.Native.Nat.{ℕ, _+_, _-_, _*_, _^_, _≤_, _<_}
 use mathlib.Core.Path.{_≡_, refl, sym, _∙_, ap}
 use native.Mathlib.Omega.{arith}
 use mathlib.Core.Bool.{false}
+use lib.Ieee.{Float}
+use Rattle.device.specs.declared.Mosfet1.{Mosfet1}
+use Rattle.mosfet1.specs.declared.steps.Conditions.{Conditions}
 use mathlib.Core.List.{List, [], _∷_}
 use Rattle.model.specs.Calls.{evalOf}
 use Rattle.model.specs.declared.calls.Evaluation.{Evaluation}
@@ -16,6 +19,12 @@ use Rattle.channel_curve.proofs.point_at.Lts as lts
 use Rattle.channel_curve.proofs.reference.conditions.Reads as conditions-reads
 use Rattle.channel_curve.proofs.reference.device.Reads as device-reads
 use Rattle.model.proofs.calls.eval.Reads as eval-reads
+
+-- what an evaluation of the reference device found is what the definition answers
+answer : {d : Mosfet1} {k : Conditions} {a q : Evaluation} (x : List Float) →
+    d ≡ the-device → k ≡ the-conditions → a ≡ evalOf d x false k → a ≡ q →
+    answered q ≡ answered (evalOf the-device x false the-conditions)
+answer x device conditions called found = ap answered (sym found ∙ (called ∙ (λ i. evalOf (device i) x false (conditions i))))
 
 device-requires : tie.Need-device-requires
 device-requires c κs = search needs
@@ -38,16 +47,14 @@ enum-known-row c = search needs
 returns : tie.Need-returns
 unfolding pointAt answered
 returns c =
-    let A = c .before .before .before .before .before .before .before .before .before .args in
-    let done : evalOf the-device (A .vds ∷ A .vgs ∷ []) false the-conditions ≡ Done (c .before .before .before .e .given .0 .0) = cc in
-    sym (ap answered done)
+    let E = c .before .before .before .before .before in
+    answer _ (E .before .before .before .device .ensures) (E .before .conditions .ensures) (E .eval .ensures) (c .before .before .before .e .given .1)
 
 returns-2 : tie.Need-returns-2
 unfolding pointAt answered
 returns-2 c =
-    let A = c .before .before .before .before .before .before .before .args in
-    let refused : evalOf the-device (A .vds ∷ A .vgs ∷ []) false the-conditions ≡ Refused (c .before .row .given .0 .0) = cc in
-    sym (ap answered refused)
+    let E = c .before .before .before in
+    answer _ (E .before .before .before .device .ensures) (E .before .conditions .ensures) (E .eval .ensures) (c .before .row .given .1)
 
 pub point-at-spec : {M : Type 1} → statement M
 point-at-spec =

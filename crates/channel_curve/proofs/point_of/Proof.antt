@@ -39,7 +39,7 @@ enum-told c = search needs
 returns-3 : tie.Need-returns-3
 unfolding pointOf bothRead
 returns-3 c =
-    let none : bitsAt (c .before .before .before .before .before .before .before .args .line .now) 0 ≡ Not = cc in
+    let none : bitsAt (c .before .before .before .before .before .before .before .args .line .now) 0 ≡ Not = sym (c .before .before .bits-at .ensures) ∙ c .enum-told .given .1 in
     simp (eq-eqb _ _ (c .before .before .before .before .before .if1 .left), eq-eqb _ _ (c .before .before .before .if2 .left), none)
 
 bits-at-requires-2 : tie.Need-bits-at-requires-2
@@ -55,8 +55,8 @@ returns-4 : tie.Need-returns-4
 unfolding pointOf bothRead
 returns-4 c =
     let line = c .before .before .before .before .before .before .before .before .before .before .before .args .line .now in
-    let first : bitsAt line 0 ≡ Is (c .before .before .before .before .g .given .0 .0) = cc in
-    let none : bitsAt line 17 ≡ Not = cc in
+    let first : bitsAt line 0 ≡ Is (c .before .before .before .before .g .given .0 .0) = sym (c .before .before .before .before .before .before .bits-at .ensures) ∙ c .before .before .before .before .g .given .1 in
+    let none : bitsAt line 17 ≡ Not = sym (c .before .before .bits-at2 .ensures) ∙ c .enum-told2 .given .1 in
     simp (eq-eqb _ _ (c .before .before .before .before .before .before .before .before .before .if1 .left), eq-eqb _ _ (c .before .before .before .before .before .before .before .if2 .left), first, none)
 
 float-of-requires : tie.Need-float-of-requires
@@ -72,9 +72,9 @@ returns-5 : tie.Need-returns-5
 unfolding pointOf bothRead
 returns-5 c =
     let line = c .before .before .before .before .before .before .before .before .before .before .before .before .before .before .before .args .line .now in
-    let first : bitsAt line 0 ≡ Is (c .before .before .before .before .before .before .before .before .g .given .0 .0) = cc in
-    let second : bitsAt line 17 ≡ Is (c .before .before .before .before .d .given .0 .0) = cc in
-    let answer : c .point-at .result ≡ pointAt (ofBits binary64 (c .before .before .before .before .before .before .before .before .g .given .0 .0)) (ofBits binary64 (c .before .before .before .before .d .given .0 .0)) = cc in
+    let first : bitsAt line 0 ≡ Is (c .before .before .before .before .before .before .before .before .g .given .0 .0) = sym (c .before .before .before .before .before .before .before .before .before .before .bits-at .ensures) ∙ c .before .before .before .before .before .before .before .before .g .given .1 in
+    let second : bitsAt line 17 ≡ Is (c .before .before .before .before .d .given .0 .0) = sym (c .before .before .before .before .before .before .bits-at2 .ensures) ∙ c .before .before .before .before .d .given .1 in
+    let answer : c .point-at .result ≡ pointAt (ofBits binary64 (c .before .before .before .before .before .before .before .before .g .given .0 .0)) (ofBits binary64 (c .before .before .before .before .d .given .0 .0)) = rw (c .before .before .float-of .ensures, c .before .float-of2 .ensures) at (c .point-at .ensures) in
     simp (eq-eqb _ _ (c .before .before .before .before .before .before .before .before .before .before .before .before .before .if1 .left), eq-eqb _ _ (c .before .before .before .before .before .before .before .before .before .before .before .if2 .left), first, second) answer
 
 pub point-of-spec : {M : Type 1} → statement M

@@ -13,7 +13,7 @@ given-from-requires-2 c κs = search needs
 
 returns : tie.Need-returns
 unfolding cardFrom
-returns c = cc
+returns c = rw (c .given-from2 .ensures, c .before .given-from .ensures)
 
 pub card-from-spec : {M : Type 1} → statement M
 card-from-spec = tie.close (tie.spec given-from-requires given-from-requires-2 returns)

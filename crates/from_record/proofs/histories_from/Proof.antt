@@ -22,7 +22,7 @@ history-from-requires-5 c κs = search needs
 
 returns : tie.Need-returns
 unfolding historiesFrom
-returns c = cc
+returns c = rw (c .history-from5 .ensures, c .before .history-from4 .ensures, c .before .before .history-from3 .ensures, c .before .before .before .history-from2 .ensures, c .before .before .before .before .history-from .ensures)
 
 pub histories-from-spec : {M : Type 1} → statement M
 histories-from-spec =

@@ -10,7 +10,7 @@ given-from-requires c κs = search needs
 
 returns : tie.Need-returns
 unfolding historyFrom
-returns c = cc
+returns c = rw (c .given-from .ensures)
 
 pub history-from-spec : {M : Type 1} → statement M
 history-from-spec = tie.close (tie.spec given-from-requires returns)

@@ -25,7 +25,7 @@ node-from-requires-6 c κs = search needs
 
 returns : tie.Need-returns
 unfolding terminalsFrom
-returns c = cc
+returns c = rw (c .node-from6 .ensures, c .before .node-from5 .ensures, c .before .before .node-from4 .ensures, c .before .before .before .node-from3 .ensures, c .before .before .before .before .node-from2 .ensures, c .before .before .before .before .before .node-from .ensures)
 
 pub terminals-from-spec : {M : Type 1} → statement M
 terminals-from-spec =

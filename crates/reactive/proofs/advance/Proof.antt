@@ -8,7 +8,7 @@ recorded-requires c κs = search needs
 
 returns : tie.Need-returns
 unfolding advanceOf
-returns c = cc
+returns c = rw (c .recorded .ensures)
 
 pub advance-spec : {M : Type 1} → statement M
 advance-spec = tie.close (tie.spec recorded-requires returns)

@@ -8,7 +8,7 @@ charge-current-requires c κs = search needs
 
 returns : tie.Need-returns
 unfolding companionOf historyOf
-returns c = cc
+returns c = rw (← c .before .before .charge-current .ensures)
 
 pub companion-spec : {M : Type 1} → statement M
 companion-spec = tie.close (tie.spec charge-current-requires returns)

@@ -8,7 +8,7 @@ max-requires c κs = search needs
 
 returns : tie.Need-returns
 unfolding eulerConductanceOf
-returns c = cc
+returns c = rw (c .max .ensures)
 
 pub euler-conductance-spec : {M : Type 1} → statement M
 euler-conductance-spec = tie.close (tie.spec max-requires returns)

@@ -8,7 +8,7 @@ max-requires c κs = search needs
 
 returns : tie.Need-returns
 unfolding gearConductanceOf
-returns c = cc
+returns c = rw (c .max .ensures)
 
 pub gear-conductance-spec : {M : Type 1} → statement M
 gear-conductance-spec = tie.close (tie.spec max-requires returns)

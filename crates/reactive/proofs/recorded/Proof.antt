@@ -11,7 +11,7 @@ charge-current-requires c κs = search needs
 
 returns : tie.Need-returns
 unfolding recordedOf
-returns c = rw (← c .before .before .has-step .ensures, c .before .if1 .taken) (cc)
+returns c = rw (← c .before .before .has-step .ensures, c .before .if1 .taken, ← c .charge-current .ensures)
 
 returns-2 : tie.Need-returns-2
 unfolding recordedOf

@@ -8,7 +8,7 @@ max-requires c κs = search needs
 
 returns : tie.Need-returns
 unfolding trapezoidConductanceOf
-returns c = cc
+returns c = rw (c .max .ensures)
 
 pub trapezoid-conductance-spec : {M : Type 1} → statement M
 trapezoid-conductance-spec = tie.close (tie.spec max-requires returns)

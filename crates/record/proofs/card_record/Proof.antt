@@ -13,7 +13,7 @@ given-record-requires-2 c κs = search needs
 
 returns : tie.Need-returns
 unfolding cardRecord
-returns c = cc
+returns c = rw (c .given-record2 .ensures, c .before .given-record .ensures)
 
 pub card-record-spec : {M : Type 1} → statement M
 card-record-spec = tie.close (tie.spec given-record-requires given-record-requires-2 returns)

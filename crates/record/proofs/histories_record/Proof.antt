@@ -22,7 +22,7 @@ history-record-requires-5 c κs = search needs
 
 returns : tie.Need-returns
 unfolding historiesRecord
-returns c = cc
+returns c = rw (c .history-record5 .ensures, c .before .history-record4 .ensures, c .before .before .history-record3 .ensures, c .before .before .before .history-record2 .ensures, c .before .before .before .before .history-record .ensures)
 
 pub histories-record-spec : {M : Type 1} → statement M
 histories-record-spec =

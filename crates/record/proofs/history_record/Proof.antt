@@ -10,7 +10,7 @@ given-record-requires c κs = search needs
 
 returns : tie.Need-returns
 unfolding historyRecord
-returns c = cc
+returns c = rw (c .given-record .ensures)
 
 pub history-record-spec : {M : Type 1} → statement M
 history-record-spec = tie.close (tie.spec given-record-requires returns)

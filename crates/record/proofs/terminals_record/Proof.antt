@@ -25,7 +25,7 @@ node-record-requires-6 c κs = search needs
 
 returns : tie.Need-returns
 unfolding terminalsRecord
-returns c = cc
+returns c = rw (c .node-record6 .ensures, c .before .node-record5 .ensures, c .before .before .node-record4 .ensures, c .before .before .before .node-record3 .ensures, c .before .before .before .before .node-record2 .ensures, c .before .before .before .before .before .node-record .ensures)
 
 pub terminals-record-spec : {M : Type 1} → statement M
 terminals-record-spec =

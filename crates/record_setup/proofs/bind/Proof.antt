@@ -25,7 +25,7 @@ setup-instance-requires c κs = search needs
 
 returns : tie.Need-returns
 unfolding boundBy
-returns c = rw (c .setup-instance .ensures, c .before .node-from4 .ensures, c .before .before .node-from3 .ensures, c .before .before .before .node-from2 .ensures, c .before .before .before .before .node-from .ensures, c .before .before .before .before .before .before .before .before .before .device-from .ensures)
+returns c = rw (c .setup-instance .ensures, c .before .node-from4 .ensures, c .before .before .node-from3 .ensures, c .before .before .before .node-from2 .ensures, c .before .before .before .before .node-from .ensures, c .before .before .before .before .before .device-from .ensures)
 
 pub bind-spec : {M : Type 1} → statement M
 bind-spec = tie.close (tie.spec device-from-requires node-from-requires node-from-requires-2 node-from-requires-3 node-from-requires-4 setup-instance-requires returns)

@@ -13,7 +13,7 @@ charges-at-requires c κs = tt
 
 returns : tie.Need-returns
 unfolding evaluatedChargesOf
-returns c = rw (c .before .before .before .before .before .before .if1 .taken, c .charges-at .ensures, c .before .grading .ensures, c .before .before .gate-shares .ensures)
+returns c = rw (c .before .before .before .if1 .taken, c .charges-at .ensures, c .before .grading .ensures, c .before .before .gate-shares .ensures)
 
 returns-2 : tie.Need-returns-2
 unfolding evaluatedChargesOf
