@@ -1,9 +1,9 @@
--- `assembly::any_gate`: the first gate branch that is loaded decides.
-use Rattle.assembly.specs.Numbers.{anyGate}
-use Rattle.assembly.proofs.any_gate.Statement.{statement}
-use Rattle.assembly.proofs.any_gate.Tie as tie
-use Rattle.assembly.proofs.any_gate.Reads as reads
-use Rattle.assembly.proofs.any_gate.Lts as lts
+-- `places::any_gate`: the first gate branch that is loaded decides.
+use Rattle.places.specs.Places.{anyGate}
+use Rattle.places.proofs.any_gate.Statement.{statement}
+use Rattle.places.proofs.any_gate.Tie as tie
+use Rattle.places.proofs.any_gate.Reads as reads
+use Rattle.places.proofs.any_gate.Lts as lts
 
 -- src/lib.rt:292:9
 returns : tie.Need-returns
