@@ -124,12 +124,7 @@ fn place_unless(
 
 // The places of the 24 Jacobian values' cells (`jac_pairs`); each different cell is looked up once, and where a terminal has
 // no series resistance its outer node is the inner one.
-fn jacobian_places(
-    columns: &[u32],
-    offsets: &[usize],
-    lengths: &[usize],
-    n: Nodes,
-) -> [usize; 24]
+fn jacobian_places(columns: &[u32], offsets: &[usize], lengths: &[usize], n: Nodes) -> [usize; 24]
     requires { ⌜ wellFormed (now columns) (now offsets) (now lengths) (length (now columns)) ≡ true ⌝ }
     ensures { λ r. ⌜ r ≡ numbersOf (record { columns = now (columns .entry); offsets = now (offsets .entry); lengths = now (lengths .entry) }) (jacPairsOf (terminalsAt n)) ⌝ }
 {

@@ -1,30 +1,22 @@
--- `assembly::add_history`: two additions in turn, or none.
-use Rattle.assembly.specs.Assembly.{addSources, currentPair}
+-- `adding::add_history`: two additions in turn, or none.
+use Rattle.adding.specs.Adding.{addSources, currentPair}
 use borrow.Author.Needs.{needs}
-use Rattle.assembly.proofs.add_history.Statement.{statement}
-use Rattle.assembly.proofs.add_history.Tie as tie
-use Rattle.assembly.proofs.add_history.Reads as reads
-use Rattle.assembly.proofs.add_history.Lts as lts
-use Rattle.assembly.proofs.add_node.Reads as add-node-reads
+use Rattle.adding.proofs.add_history.Statement.{statement}
+use Rattle.adding.proofs.add_history.Tie as tie
 
--- src/lib.rt:205:9
 add-node-requires : tie.Need-add-node-requires
 add-node-requires c κs = search needs
 
--- src/lib.rt:206:9
 add-node-requires-2 : tie.Need-add-node-requires-2
 add-node-requires-2 c κs = search needs
 
--- src/lib.rt:201:1
 same-length : tie.Need-same-length
 same-length c = search needs
 
--- src/lib.rt:201:1
 returns : tie.Need-returns
 unfolding addSources currentPair
 returns c = rw (c .before .before .before .before .before .before .before .before .if1 .taken, ← c .before .before .before .before .before .before .add-node .ensures, ← c .before .before .add-node2 .ensures)
 
--- src/lib.rt:201:1
 returns-2 : tie.Need-returns-2
 unfolding addSources
 returns-2 c = rw (c .if1 .left)

@@ -1,19 +1,16 @@
 use mathlib.Core.List.{List}
 use lib.Ieee.{Float}
--- `assembly::add_all`: what is left to add, added to the present list, is all added to the list at entry.
+-- `adding::add_all`: what is left to add, added to the present list, is all added to the list at entry.
 use mathlib.Core.Path.{_≡_, refl, sym, ap, _∙_}
 use Prim.Native.Nat.{ℕ, _+_, _-_}
 use native.Mathlib.Omega.{arith}
 use borrow.Author.Needs.{needs}
 use lib.ListN.{length, drop}
 use denote.Ref.{now}
-use Rattle.assembly.specs.Numbers.{addAll}
-use Rattle.assembly.proofs.Adding.{add-more, add-end}
-use Rattle.assembly.proofs.add_all.Statement.{statement}
-use Rattle.assembly.proofs.add_all.Tie as tie
-use Rattle.assembly.proofs.add_all.Reads as reads
-use Rattle.assembly.proofs.add_all.Lts as lts
-use Rattle.assembly.proofs.add_at.Reads as add-at-reads
+use Rattle.adding.specs.Adding.{addAll}
+use Rattle.adding.proofs.Adding.{add-more, add-end}
+use Rattle.adding.proofs.add_all.Statement.{statement}
+use Rattle.adding.proofs.add_all.Tie as tie
 
 abbrev Inv-loop : tie.InvT-loop
 Inv-loop xs₀ places values k₀ xs k = (length xs ≡ length xs₀) × (addAll xs₀ places values ≡ addAll xs (drop k places) (drop k values))
@@ -21,39 +18,30 @@ Inv-loop xs₀ places values k₀ xs k = (length xs ≡ length xs₀) × (addAll
 abbrev μ-loop : tie.MeasureT-loop
 μ-loop xs₀ places values k₀ xs k = length places - k
 
--- src/lib.rt:92:5
 loop-holds : tie.Need-loop-holds Inv-loop μ-loop
 loop-holds c = (refl, refl)
 
--- src/lib.rt:93:20
 mul-add-at : tie.Need-mul-add-at Inv-loop μ-loop
 mul-add-at c = omega (arith, c .before .before .before .before .before .before .good .1 .0 .1)
 
--- src/lib.rt:93:20
 shared-slice-read-add-at : tie.Need-shared-slice-read-add-at Inv-loop μ-loop
 shared-slice-read-add-at c = omega arith
 
--- src/lib.rt:93:31
 mul-add-at-2 : tie.Need-mul-add-at-2 Inv-loop μ-loop
 mul-add-at-2 c = omega (arith, c .before .before .before .before .before .before .before .good .1 .0 .1)
 
--- src/lib.rt:93:31
 shared-slice-read-add-at-2 : tie.Need-shared-slice-read-add-at-2 Inv-loop μ-loop
 shared-slice-read-add-at-2 c = omega (arith, c .before .before .before .before .before .before .before .before .pre)
 
--- src/lib.rt:93:9
 add-at-requires : tie.Need-add-at-requires Inv-loop μ-loop
 add-at-requires c κs = search needs
 
--- src/lib.rt:94:9
 add-k : tie.Need-add-k Inv-loop μ-loop
 add-k c = omega arith
 
--- src/lib.rt:92:5
 loop-less : tie.Need-loop-less Inv-loop μ-loop
 loop-less c = omega arith
 
--- src/lib.rt:92:5
 loop-again : tie.Need-loop-again Inv-loop μ-loop
 loop-again c =
     let l = c .before .before .before .before .before .before .before in
@@ -64,11 +52,9 @@ loop-again c =
           ∙ ap (λ (xs : List Float). addAll xs (drop (l .loop .k + 1) (now (s .args .places))) (drop (l .loop .k + 1) (now (s .args .values)))) (sym (c .before .before .add-at .ensures)),
     )
 
--- src/lib.rt:87:1
 same-length : tie.Need-same-length Inv-loop μ-loop
 same-length c = c .before .loop .inv .0
 
--- src/lib.rt:87:1
 returns : tie.Need-returns Inv-loop μ-loop
 returns c = sym (c .before .loop .inv .1 ∙ add-end (c .before .loop .xs) (now (c .before .before .before .before .before .args .places)) (now (c .before .before .before .before .before .args .values)) (c .before .loop .k) (omega arith))
 

@@ -1,39 +1,30 @@
--- `assembly::add_at`: the store is the definition's, and a place behind the end stores nothing.
+-- `adding::add_at`: the store is the definition's, and a place behind the end stores nothing.
 use mathlib.Core.Path.{refl, sym}
-use Rattle.assembly.specs.Assembly.{addAt}
-use Rattle.assembly.proofs.Adding.{add-outside}
+use Rattle.adding.specs.Adding.{addAt}
+use Rattle.adding.proofs.Adding.{add-outside}
 use borrow.Author.Needs.{needs}
-use Rattle.assembly.proofs.add_at.Statement.{statement}
-use Rattle.assembly.proofs.add_at.Tie as tie
-use Rattle.assembly.proofs.add_at.Reads as reads
-use Rattle.assembly.proofs.add_at.Lts as lts
+use Rattle.adding.proofs.add_at.Statement.{statement}
+use Rattle.adding.proofs.add_at.Tie as tie
 
--- src/lib.rt:73:21
 mul-xs : tie.Need-mul-xs
 mul-xs c = search needs
 
--- src/lib.rt:73:21
 slice-read-xs : tie.Need-slice-read-xs
 slice-read-xs c = search needs
 
--- src/lib.rt:73:9
 mul-xs-2 : tie.Need-mul-xs-2
 mul-xs-2 c = search needs
 
--- src/lib.rt:73:9
 slice-write-xs : tie.Need-slice-write-xs
 slice-write-xs c = search needs
 
--- src/lib.rt:69:1
 same-length : tie.Need-same-length
 same-length c = search needs
 
--- src/lib.rt:69:1
 returns : tie.Need-returns
 unfolding addAt
 returns c = refl
 
--- src/lib.rt:69:1
 returns-2 : tie.Need-returns-2
 returns-2 c = sym (add-outside _ _ _ (c .if1 .left))
 

@@ -1,89 +1,66 @@
--- `assembly::add_branches`: five branches in turn.
-use Rattle.assembly.specs.Numbers.{addBranches}
+-- `adding::add_branches`: five branches in turn.
+use Rattle.adding.specs.Adding.{addBranches}
 use borrow.Author.Needs.{needs}
-use Rattle.assembly.proofs.add_branches.Statement.{statement}
-use Rattle.assembly.proofs.add_branches.Tie as tie
-use Rattle.assembly.proofs.add_branches.Reads as reads
-use Rattle.assembly.proofs.add_branches.Lts as lts
-use Rattle.assembly.proofs.add_four.Reads as add-four-reads
+use Rattle.adding.proofs.add_branches.Statement.{statement}
+use Rattle.adding.proofs.add_branches.Tie as tie
 
--- src/lib.rt:254:59
 element-copy-out-add-four : tie.Need-element-copy-out-add-four
 element-copy-out-add-four c = search needs
 
--- src/lib.rt:254:65
 element-copy-out-add-four-2 : tie.Need-element-copy-out-add-four-2
 element-copy-out-add-four-2 c = search needs
 
--- src/lib.rt:254:5
 add-four-requires : tie.Need-add-four-requires
 add-four-requires c κs = search needs
 
--- src/lib.rt:255:59
 element-copy-out-add-four-3 : tie.Need-element-copy-out-add-four-3
 element-copy-out-add-four-3 c = search needs
 
--- src/lib.rt:255:65
 element-copy-out-add-four-4 : tie.Need-element-copy-out-add-four-4
 element-copy-out-add-four-4 c = search needs
 
--- src/lib.rt:255:5
 add-four-requires-2 : tie.Need-add-four-requires-2
 add-four-requires-2 c κs = search needs
 
--- src/lib.rt:256:59
 element-copy-out-add-four-5 : tie.Need-element-copy-out-add-four-5
 element-copy-out-add-four-5 c = search needs
 
--- src/lib.rt:256:5
 add-four-requires-3 : tie.Need-add-four-requires-3
 add-four-requires-3 c κs = search needs
 
--- src/lib.rt:257:47
 element-copy-out-add-four-6 : tie.Need-element-copy-out-add-four-6
 element-copy-out-add-four-6 c = search needs
 
--- src/lib.rt:257:54
 element-copy-out-add-four-7 : tie.Need-element-copy-out-add-four-7
 element-copy-out-add-four-7 c = search needs
 
--- src/lib.rt:257:61
 element-copy-out-add-four-8 : tie.Need-element-copy-out-add-four-8
 element-copy-out-add-four-8 c = search needs
 
--- src/lib.rt:257:67
 element-copy-out-add-four-9 : tie.Need-element-copy-out-add-four-9
 element-copy-out-add-four-9 c = search needs
 
--- src/lib.rt:257:5
 add-four-requires-4 : tie.Need-add-four-requires-4
 add-four-requires-4 c κs = search needs
 
--- src/lib.rt:258:47
 element-copy-out-add-four-10 : tie.Need-element-copy-out-add-four-10
 element-copy-out-add-four-10 c = search needs
 
--- src/lib.rt:258:54
 element-copy-out-add-four-11 : tie.Need-element-copy-out-add-four-11
 element-copy-out-add-four-11 c = search needs
 
--- src/lib.rt:258:61
 element-copy-out-add-four-12 : tie.Need-element-copy-out-add-four-12
 element-copy-out-add-four-12 c = search needs
 
--- src/lib.rt:258:67
 element-copy-out-add-four-13 : tie.Need-element-copy-out-add-four-13
 element-copy-out-add-four-13 c = search needs
 
--- src/lib.rt:258:5
 add-four-requires-5 : tie.Need-add-four-requires-5
 add-four-requires-5 c κs = search needs
 
--- src/lib.rt:246:1
 same-length : tie.Need-same-length
 same-length c = search needs
 
--- src/lib.rt:246:1
 returns : tie.Need-returns
 unfolding addBranches
 returns c = rw (← c .before .before .before .before .before .before .before .before .before .before .before .before .before .before .before .before .before .before .before .before .before .before .before .before .before .before .before .before .before .add-four .ensures, ← c .before .before .before .before .before .before .before .before .before .before .before .before .before .before .before .before .before .before .before .before .before .before .before .add-four2 .ensures, ← c .before .before .before .before .before .before .before .before .before .before .before .before .before .before .before .before .before .before .add-four3 .ensures, ← c .before .before .before .before .before .before .before .before .before .before .add-four4 .ensures, ← c .before .before .add-four5 .ensures)
