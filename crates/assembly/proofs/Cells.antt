@@ -21,10 +21,11 @@ use Rattle.stamps.specs.Stamps.{position, jacPairsOf}
 use Rattle.stamps.specs.declared.Position.{Position}
 use Rattle.stamps.specs.declared.ChargeBranch.{ChargeBranch}
 use Rattle.stamps.specs.declared.ChargeBranches.{ChargeBranches}
-use Rattle.assembly.specs.Assembly.{Pattern, Contribution, Source, Place, ground, missing, at, foundPlace, placeOf, addAt, addPlace, addCells, there, allThere, addSources, paired, conductancePair, branchCells, matrixContributions}
-use Rattle.assembly.specs.Numbers.{missingNumber, skippedNumber, placeNumber, numberOf, numbersOf, addAll, noneMissing, addFour, fourThere, gatePlacesOf, addBranches, branchesThere, anyGate}
-use Rattle.assembly.specs.declared.GatePlaces.{GatePlaces}
-use Rattle.assembly.proofs.Adding.{add-outside, length-add}
+use Rattle.assembly.specs.Assembly.{Pattern, Contribution, Place, ground, missing, at, foundPlace, placeOf, addAt, addPlace, addCells, there, allThere, paired, conductancePair, branchCells, matrixContributions}
+use Rattle.places.specs.Places.{missingNumber, skippedNumber, placeNumber, numberOf, numbersOf, noneMissing, fourThere, gatePlacesOf, branchesThere, anyGate}
+use Rattle.places.specs.declared.GatePlaces.{GatePlaces}
+use Rattle.adding.specs.Adding.{addAll, addFour, addBranches}
+use Rattle.adding.proofs.Adding.{add-outside, length-add}
 
 -- contributions one after another
 pub cells-append : (P : Pattern) (cs ds : List Contribution) (xs : List Float) → addCells P (cs ++ ds) xs ≡ addCells P ds (addCells P cs xs)
@@ -41,11 +42,6 @@ unfolding allThere
 there-append P [] ds = refl
 there-append P (c ∷ cs) ds = ap (λ (t : Bool). there (placeOf P (c .position .row) (c .position .col)) && t) (there-append P cs ds)
     ∙ and-move (there (placeOf P (c .position .row) (c .position .col))) (allThere P cs) (allThere P ds)
-
-pub sources-append : (ss ts : List Source) (xs : List Float) → addSources (ss ++ ts) xs ≡ addSources ts (addSources ss xs)
-unfolding addSources
-sources-append [] ts xs = refl
-sources-append (s ∷ ss) ts xs = sources-append ss ts _
 
 -- one place
 module _ (xs : List Float) (room : length xs ≤ missingNumber) where

@@ -1,3 +1,2 @@
-pub mod Adding
 pub mod Cells
 pub mod Outcome

@@ -7,11 +7,11 @@ use lib.ListN.{length}
 use lib.Ieee.{Float}
 use Rattle.pattern.specs.Pattern.{wellFormed}
 use Rattle.device.specs.declared.Terminals.{Terminals}
-use Rattle.stamps.specs.Stamps.{jacPairsOf}
 use Rattle.stamps.specs.declared.ChargeBranches.{ChargeBranches}
 use Rattle.assembly.specs.Assembly.{Pattern, Contribution, Source, addCells, allThere, addSources, matrixContributions, Assembled}
-use Rattle.assembly.specs.Numbers.{missingNumber, numbersOf, addAll, noneMissing, gatePlacesOf, addBranches, branchesThere, anyGate}
-use Rattle.assembly.specs.declared.GatePlaces.{GatePlaces}
+use Rattle.places.specs.Places.{missingNumber, Looked}
+use Rattle.places.specs.declared.GatePlaces.{GatePlaces}
+use Rattle.adding.specs.Adding.{addAll, addBranches}
 use Rattle.assembly.proofs.Cells.{well-small, all-added, all-found}
 
 module _ (P : Pattern) (cs : List Contribution) (ss : List Source) (values rhs : List Float) where
@@ -22,15 +22,11 @@ module _ (P : Pattern) (cs : List Contribution) (ss : List Source) (values rhs :
       → Assembled P cs ss values rhs true values' rhs'
   accepted e values' rhs' m r = record { answer = sym e; matrix = rw e m; side = rw e r }
 
--- the places that were looked up
-pub record Looked (P : Pattern) (t : Terminals) (b : ChargeBranches) (places : List ℕ) (gate : GatePlaces) : Type 0 where
-  pub places-are : places ≡ numbersOf P (jacPairsOf t)
-  pub gate-are : gate ≡ gatePlacesOf P t (anyGate b)
-
-module _ (P : Pattern) (t : Terminals) (b : ChargeBranches) (jacobian : List Float) (places : List ℕ) (gate : GatePlaces) (k : Looked P t b places gate) where
+-- from the places that were looked up
+module _ (P : Pattern) (t : Terminals) (b : ChargeBranches) (jacobian : List Float) (there : Bool) (places : List ℕ) (gate : GatePlaces) (k : Looked P t b there places gate) where
   pub looked-there : wellFormed (P .columns) (P .offsets) (P .lengths) (length (P .columns)) ≡ true → length (P .columns) ≤ missingNumber → length jacobian ≡ 24
-      → allThere P (matrixContributions t jacobian b) ≡ (noneMissing places && branchesThere places gate b)
-  looked-there well room len = rw (k .places-are, k .gate-are) (sym (all-found P t b (well-small P well room) jacobian len))
+      → allThere P (matrixContributions t jacobian b) ≡ there
+  looked-there well room len = sym (all-found P t b (well-small P well room) jacobian len) ∙ rw (← k .gate-are, ← k .places-are) (sym (k .there-is))
 
   pub looked-added : (values : List Float) → length values ≤ missingNumber
       → addBranches places gate b (addAll values places jacobian) ≡ addCells P (matrixContributions t jacobian b) values

@@ -74,15 +74,15 @@ fn nodes_below(t: Terminals, len: usize) -> bool
     node_below(bulk, len)
 }
 
-// Row 8.
+// Row 8. A node below the smaller of the two lengths is below both.
 fn nodes_outside(stage: Stage, t: Terminals, len: usize, rows: usize) -> bool
     ensures { λ r. ⌜ r ≡ nodesOutside stage t len rows ⌝ }
 {
     if !is_bound(stage) {
         return false;
     }
-    if !nodes_below(t, len) {
-        return true;
+    if len < rows {
+        return !nodes_below(t, len);
     }
     !nodes_below(t, rows)
 }

@@ -1,5 +1,6 @@
 -- The matrix pattern: the columns of all rows in one list, and for each row the offset and the length of its part.
-use Prim.Native.Nat.{ℕ, suc, _+_}
+use Prim.Native.Nat.{ℕ, suc, _+_, _<_, _≤_}
+use mathlib.Core.Path.{_≡_}
 use mathlib.Core.Bool.{Bool, true, false, cond, _&&_}
 use mathlib.Core.List.{List, [], _∷_}
 use lib.ListN.{length, getD}
@@ -43,3 +44,16 @@ placeIn at (x ∷ xs) column = cond (eqb x column) (At at) (placeIn (suc at) xs 
 unfoldable pub cellOf : List ℕ → List ℕ → List ℕ → ℕ → ℕ → Found
 cellOf columns offsets lengths row column =
     placeIn (getD offsets row 0) (rowColumns columns (getD offsets row 0) (getD lengths row 0)) column
+
+-- a row's part of the columns: its offset and length, 0 and 0 for a row behind the last
+pub record SpanOf (columns offsets lengths : List ℕ) (row from len : ℕ) : Type 0 where
+  pub from-is : from ≡ getD offsets row 0
+  pub len-is : len ≡ getD lengths row 0
+  pub within : from + len ≤ length columns
+  pub rises : rising (rowColumns columns from len) ≡ true
+
+-- a guess at the place of a column in a row of a length: right where it names one, and then the column is that of a u32
+pub record Guessed (len column : ℕ) (place r : Found) : Type 0 where
+  pub right : (p : ℕ) → r ≡ At p → place ≡ At p
+  pub narrow : (p : ℕ) → r ≡ At p → column < 4294967296
+  pub some : (p : ℕ) → r ≡ At p → 0 < len

@@ -1,15 +1,22 @@
 // The matrix pattern (the Rust's `Pattern` of mna.rs): row 12's test, and the place of a cell.
 ghost use mathlib.Core.Path.{_≡_};
 ghost use mathlib.Core.Bool.{true};
-ghost use Prim.Native.Nat.{_≤_, _<_, _-_};
+ghost use Prim.Native.Nat.{_+_, _≤_};
 ghost use lib.ListN.{length};
 ghost use lib.Seq.{slice};
-ghost use Rattle.pattern.specs.Pattern.{rising, wellFormed, placeIn, cellOf};
+ghost use Rattle.pattern.specs.Pattern.{rising, wellFormed, placeIn, cellOf, SpanOf, Guessed};
 
 // Where a column stands, if it does.
 pub enum Found {
     At(usize),
     Absent,
+}
+
+// A row's part of the columns. The first column in it serves guesses and carries no claim; 0 where the row is empty.
+pub struct RowSpan {
+    pub from: usize,
+    pub len: usize,
+    pub first: usize,
 }
 
 // Whether the columns from `from` up to `to` rise.
@@ -67,8 +74,9 @@ pub fn well_formed(columns: &[u32], offsets: &[usize], lengths: &[usize], values
     true
 }
 
-// Binary search for a column among rising ones.
-fn search(columns: &[u32], from: usize, to: usize, column: usize) -> Found
+// Binary search for a column among rising ones. It serves the next layer, as do `row_span` and `guess`: the pattern has
+// passed row 12's test.
+pub fn search(columns: &[u32], from: usize, to: usize, column: usize) -> Found
     requires { ⌜ (from ≤ to) × ((to ≤ length (now columns)) × (rising (slice from to (now columns)) ≡ true)) ⌝ }
     ensures { λ r. ⌜ r ≡ placeIn from (slice from to (now (columns .entry))) column ⌝ }
 {
@@ -95,6 +103,47 @@ fn wide(x: u32) -> usize
     x as usize
 }
 
+// A row's part of the columns; a row behind the last is empty.
+pub fn row_span(columns: &[u32], offsets: &[usize], lengths: &[usize], row: usize) -> RowSpan
+    requires { ⌜ wellFormed (now columns) (now offsets) (now lengths) (length (now columns)) ≡ true ⌝ }
+    ensures { λ r. ⌜ SpanOf (now (columns .entry)) (now (offsets .entry)) (now (lengths .entry)) row (r .from) (r .len) ⌝ }
+{
+    if offsets.len() <= row {
+        return RowSpan {
+            from: 0,
+            len: 0,
+            first: 0,
+        };
+    }
+    let from = offsets[row];
+    let len = lengths[row];
+    if len == 0 {
+        return RowSpan {
+            from,
+            len,
+            first: 0,
+        };
+    }
+    let first = wide(columns[from]);
+    RowSpan { from, len, first }
+}
+
+// The place that a column has in a row without gaps, tried before the search: in a short row it is mostly the right one.
+pub fn guess(columns: &[u32], from: usize, len: usize, first: usize, column: usize) -> Found
+    requires { ⌜ (from + len ≤ length (now columns)) × (rising (slice from (from + len) (now columns)) ≡ true) ⌝ }
+    ensures { λ r. ⌜ Guessed len column (placeIn from (slice from (from + len) (now (columns .entry))) column) r ⌝ }
+{
+    let ahead = std::num::wrapping_sub_usize(column, first);
+    if len <= ahead {
+        return Found::Absent;
+    }
+    let at = from + ahead;
+    if wide(columns[at]) == column {
+        return Found::At(at);
+    }
+    Found::Absent
+}
+
 // `Pattern::cell`, in a pattern that row 12's test passed.
 pub fn cell(
     columns: &[u32],
@@ -106,10 +155,12 @@ pub fn cell(
     requires { ⌜ wellFormed (now columns) (now offsets) (now lengths) (length (now columns)) ≡ true ⌝ }
     ensures { λ r. ⌜ r ≡ cellOf (now (columns .entry)) (now (offsets .entry)) (now (lengths .entry)) row column ⌝ }
 {
-    if offsets.len() <= row {
-        return Found::Absent;
+    let span = row_span(columns, offsets, lengths, row);
+    let from = span.from;
+    let len = span.len;
+    let first = span.first;
+    match guess(columns, from, len, first, column) {
+        Found::At(p) => Found::At(p),
+        Found::Absent => search(columns, from, from + len, column),
     }
-    let offset = offsets[row];
-    let len = lengths[row];
-    search(columns, offset, offset + len, column)
 }

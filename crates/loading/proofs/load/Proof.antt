@@ -1,13 +1,14 @@
 -- `loading::load`: the early rows, then the assembly of the device's own contributions.
 use mathlib.Core.Path.{_≡_, refl, sym, ap, _∙_}
 use mathlib.Core.Bool.{true, false, not}
+use native.Mathlib.Omega.{arith}
 use lib.ListN.{length}
 use denote.Ref.{now}
 use borrow.Author.Tests.{not-true, not-false}
 use Rattle.pattern.specs.Pattern.{wellFormed}
 use Rattle.assembly.specs.Assembly.{Pattern}
 use Rattle.loading.specs.Loading.{nodesOutside, isEvaluated, alphaOutside}
-use Rattle.loading.proofs.Rows.{early-well, well-columns, refused-early, refused-late, accepted-late}
+use Rattle.loading.proofs.Rows.{early-well, early-terminals, well-columns, refused-early, refused-late, accepted-late}
 use borrow.Author.Needs.{needs}
 use Rattle.loading.proofs.load.Statement.{statement}
 use Rattle.loading.proofs.load.Tie as tie
@@ -40,10 +41,12 @@ assemble-requires : tie.Need-assemble-requires
 assemble-requires c κs =
     let g = c .before .before .before .before .before .before in
     let s = start g in
-    well-columns (now (s .args .columns)) (now (s .args .offsets)) (now (s .args .lengths)) (length (now (s .args .values)))
-    (early-well (nodesOutside (s .args .device .stage) (s .args .device .terminals) (length (now (s .args .rhs))) (length (now (s .args .offsets)))) (not (isEvaluated (s .args .device .stage))) (alphaOutside (s .args .device .disc) (s .args .kind))
-    (wellFormed (now (s .args .columns)) (now (s .args .offsets)) (now (s .args .lengths)) (length (now (s .args .values))))
-    (sym (g .early-row .ensures) ∙ c .before .before .before .before .before .if1 .left))
+    let passed = sym (g .early-row .ensures) ∙ c .before .before .before .before .before .if1 .left in
+    let well = wellFormed (now (s .args .columns)) (now (s .args .offsets)) (now (s .args .lengths)) (length (now (s .args .values))) in (
+      well-columns (now (s .args .columns)) (now (s .args .offsets)) (now (s .args .lengths)) (length (now (s .args .values)))
+          (early-well (nodesOutside (s .args .device .stage) (s .args .device .terminals) (length (now (s .args .rhs))) (length (now (s .args .offsets)))) (not (isEvaluated (s .args .device .stage))) (alphaOutside (s .args .device .disc) (s .args .kind)) well passed),
+      early-terminals (s .args .device .stage) (s .args .device .terminals) (length (now (s .args .rhs))) (length (now (s .args .offsets))) (alphaOutside (s .args .device .disc) (s .args .kind)) (not well) (omega (arith, s .good .1 .1 .0 .1)) passed,
+    )
 
 same-length : tie.Need-same-length
 same-length c = search needs

@@ -1,66 +1,59 @@
--- `pattern::cell`: the row's pair lies within the columns and its columns rise, since the whole pattern is well formed.
-use mathlib.Core.Path.{_≡_, refl, sym, ap, _∙_, subst}
-use mathlib.Core.List.{List}
-use Prim.Native.Nat.{ℕ, _+_, _≤_, _<_, _-_}
+-- `pattern::cell`: a guess that names a place is right, and the search finds the others.
+use mathlib.Core.Path.{_≡_, refl, sym, ap, _∙_}
+use Prim.Native.Nat.{_+_}
 use native.Mathlib.Omega.{arith}
 use borrow.Author.Needs.{needs}
-use lib.ListN.{length, getD}
+use lib.Seq.{slice}
 use denote.Ref.{now}
-use Rattle.pattern.specs.Pattern.{cellOf}
-use Rattle.pattern.proofs.Rows.{Row, row-at, same-count, pairs-of}
-use Rattle.pattern.proofs.Places.{cell-outside}
+use Rattle.pattern.specs.Pattern.{placeIn, cellOf}
+use Rattle.pattern.specs.declared.Found.the-variants.{At}
+use Rattle.pattern.proofs.Spans.{cell-in-span}
 use Rattle.pattern.proofs.cell.Statement.{statement}
 use Rattle.pattern.proofs.cell.Tie as tie
 
--- as many offsets as lengths, and what is known of the row, seen from the function's start
-counts : (s : tie.Start) → length (now (s .args .offsets)) ≡ length (now (s .args .lengths))
-counts s = same-count _ _ _ _ (pairs-of (now (s .args .columns)) (now (s .args .offsets)) (now (s .args .lengths)) _ (s .pre))
+row-span-requires : tie.Need-row-span-requires
+row-span-requires c κs = search needs
 
-row-known : (s : tie.Start) → s .args .row < length (now (s .args .offsets)) → Row (now (s .args .columns)) (now (s .args .offsets)) (now (s .args .lengths)) (s .args .row)
-row-known s h = row-at _ _ _ _ (pairs-of (now (s .args .columns)) (now (s .args .offsets)) (now (s .args .lengths)) _ (s .pre)) _ h
+guess-requires : tie.Need-guess-requires
+guess-requires c κs = search needs
 
-abbrev start : tie.After-shared-slice-known5 → tie.Start
-start c = c .before .before .before .before .before .before
+enum-known-p : tie.Need-enum-known-p
+enum-known-p c = search needs
 
-row-here : (c : tie.After-shared-slice-known5) → Row (now (start c .args .columns)) (now (start c .args .offsets)) (now (start c .args .lengths)) (start c .args .row)
-row-here c = row-known (start c) (c .before .before .if1 .left)
+enum-told : tie.Need-enum-told
+enum-told c = search needs
+
+add-search : tie.Need-add-search
+add-search c = search needs
+
+search-requires : tie.Need-search-requires
+search-requires c κs = search needs
+
+-- the cell's place is its column's in the row's part, seen from where the part is known
+abbrev start : tie.After-row-span → tie.Start
+start c = c .before .before .before .before
+
+in-span : (c : tie.After-row-span) → placeIn (c .row-span .result .from) (slice (c .row-span .result .from) (c .row-span .result .from + c .row-span .result .len) (now (start c .args .columns))) (start c .args .column)
+    ≡ cellOf (now (start c .args .columns)) (now (start c .args .offsets)) (now (start c .args .lengths)) (start c .args .row) (start c .args .column)
+in-span c = cell-in-span _ _ _ _ _ _ _ (c .row-span .ensures)
 
 returns : tie.Need-returns
 returns c =
-    let s = c .before .before .before .before in
-    sym (cell-outside (now (s .args .columns)) (now (s .args .offsets)) (now (s .args .lengths)) (s .args .row) (s .args .column) (c .if1 .taken) (omega (arith, counts s)))
-
-mul-offset : tie.Need-mul-offset
-mul-offset c = search needs
-
-shared-slice-read-offset : tie.Need-shared-slice-read-offset
-shared-slice-read-offset c = search needs
-
-mul-len : tie.Need-mul-len
-mul-len c = search needs
-
-shared-slice-read-len : tie.Need-shared-slice-read-len
-shared-slice-read-len c = omega (arith, counts (start c), c .before .before .if1 .left)
-
-add-search : tie.Need-add-search
-add-search c = omega (arith, row-here c .within, start c .good .0 .0)
-
-search-requires : tie.Need-search-requires
-search-requires c κs = (omega arith, (row-here c .within, row-here c .rises))
+    let e : c .before .before .before .guess .result ≡ At (c .before .p .given .0 .0) = c .before .p .given .1 in
+    sym (c .before .before .before .guess .ensures .right _ e) ∙ in-span (c .before .before .before .before)
 
 returns-2 : tie.Need-returns-2
-unfolding cellOf
-returns-2 c = c .search .ensures
+returns-2 c = c .search .ensures ∙ in-span (c .before .before .before .before)
 
 pub cell-spec : {M : Type 1} → statement M
 cell-spec =
     tie.close
     (tie.spec
-    returns
-    mul-offset
-    shared-slice-read-offset
-    mul-len
-    shared-slice-read-len
+    row-span-requires
+    guess-requires
+    enum-known-p
+    enum-told
     add-search
     search-requires
+    returns
     returns-2)
