@@ -37,7 +37,7 @@ returns-2 c =
 returns-3 : tie.Need-returns-3 Inv-loop μ-loop
 returns-3 c =
     let w = c .before .before .before .before .before .before .args .w .now in let L = c .before .before .before .before .loop in
-    sym (L .inv .1 ∙ above w (L .i) (L .n) (omega arith) (c .before .if2 .left) (c .if3 .taken))
+    sym (L .inv .1 ∙ above w (L .i) (L .n) (omega arith) (omega arith) (omega arith))
 
 cast-d : tie.Need-cast-d Inv-loop μ-loop
 cast-d c = search needs
@@ -45,12 +45,12 @@ cast-d c = search needs
 returns-4 : tie.Need-returns-4 Inv-loop μ-loop
 returns-4 c =
     let w = c .before .before .before .before .before .before .before .args .w .now in let L = c .before .before .before .before .before .loop in
-    sym (L .inv .1 ∙ too-large w (L .i) (L .n) (omega arith) (c .before .before .if2 .left) (c .before .if3 .left) (omega arith))
+    sym (L .inv .1 ∙ too-large w (L .i) (L .n) (omega arith) (omega arith) (omega arith) (omega arith))
 
 returns-5 : tie.Need-returns-5 Inv-loop μ-loop
 returns-5 c =
     let w = c .before .before .before .before .before .before .before .before .before .args .w .now in let L = c .before .before .before .before .before .before .before .loop in
-    sym (L .inv .1 ∙ too-large w (L .i) (L .n) (omega arith) (c .before .before .before .before .if2 .left) (c .before .before .before .if3 .left) (omega arith))
+    sym (L .inv .1 ∙ too-large w (L .i) (L .n) (omega arith) (omega arith) (omega arith) (omega arith))
 
 mul-n : tie.Need-mul-n Inv-loop μ-loop
 mul-n c = search needs
@@ -68,7 +68,7 @@ loop-again : tie.Need-loop-again Inv-loop μ-loop
 loop-again c =
     let w = c .before .before .before .before .before .before .before .before .args .w .now in let L = c .before .before .before .before .before .before .loop in
     let fits : L .n * 10 + (getD w (L .i) 0 - 48) < 18446744073709551616 = ⊎-elim (λ w. omega arith) (λ w. omega arith) (c .if5 .came) in
-    (omega arith, L .inv .1 ∙ digit-read w (L .i) (L .n) (omega arith) (c .before .before .before .if2 .left) (c .before .before .if3 .left) fits)
+    (omega arith, L .inv .1 ∙ digit-read w (L .i) (L .n) (omega arith) (omega arith) (omega arith) fits)
 
 returns-6 : tie.Need-returns-6 Inv-loop μ-loop
 returns-6 c =
