@@ -4,6 +4,8 @@ use crate::word::until;
 use device::Discretisation;
 use device::NodeId;
 use hex::Bits;
+ghost use mathlib.Core.Path.{_≡_};
+ghost use Rattle.script.specs.Number.{numberOf, wholeOf, nodeOf, methodOf, stepsOf, gearOf};
 
 // A float, or a word that is none.
 pub enum Number {
@@ -30,7 +32,9 @@ pub enum Method {
 }
 
 // A float by its bits, or `nan`.
-pub fn read_number(w: &[u8]) -> Number {
+pub fn read_number(w: &[u8]) -> Number
+    ensures { λ r. ⌜ r ≡ numberOf (now (w .entry)) ⌝ }
+{
     if same(w, b"nan") {
         return Number::Is(0.0 / 0.0);
     }
@@ -44,7 +48,9 @@ pub fn read_number(w: &[u8]) -> Number {
 }
 
 // A whole number in decimal.
-pub fn read_whole(w: &[u8]) -> Whole {
+pub fn read_whole(w: &[u8]) -> Whole
+    ensures { λ r. ⌜ r ≡ wholeOf (now (w .entry)) ⌝ }
+{
     if w.len() == 0 {
         return Whole::Not;
     }
@@ -74,7 +80,9 @@ pub fn read_whole(w: &[u8]) -> Whole {
 }
 
 // A node by its number; `-` is ground.
-pub fn read_node(w: &[u8]) -> Node {
+pub fn read_node(w: &[u8]) -> Node
+    ensures { λ r. ⌜ r ≡ nodeOf (now (w .entry)) ⌝ }
+{
     if same(w, b"-") {
         return Node::Is(NodeId::Ground);
     }
@@ -85,7 +93,9 @@ pub fn read_node(w: &[u8]) -> Node {
 }
 
 // `none`, `euler:H`, `trap:H` or `gear:H:HPREV`.
-pub fn read_method(w: &[u8]) -> Method {
+pub fn read_method(w: &[u8]) -> Method
+    ensures { λ r. ⌜ r ≡ methodOf (now (w .entry)) ⌝ }
+{
     if same(w, b"none") {
         return Method::Is(Discretisation::None);
     }
@@ -99,7 +109,9 @@ pub fn read_method(w: &[u8]) -> Method {
 }
 
 // A method by its name and its step lengths.
-fn read_steps(name: &[u8], steps: &[u8]) -> Method {
+fn read_steps(name: &[u8], steps: &[u8]) -> Method
+    ensures { λ r. ⌜ r ≡ stepsOf (now (name .entry)) (now (steps .entry)) ⌝ }
+{
     if same(name, b"gear") {
         return read_gear(steps);
     }
@@ -116,7 +128,9 @@ fn read_steps(name: &[u8], steps: &[u8]) -> Method {
 }
 
 // Gear's two step lengths, a colon between.
-fn read_gear(steps: &[u8]) -> Method {
+fn read_gear(steps: &[u8]) -> Method
+    ensures { λ r. ⌜ r ≡ gearOf (now (steps .entry)) ⌝ }
+{
     let start = 0;
     let end = until(steps, start, b':');
     if steps.len() <= end {

@@ -1,7 +1,13 @@
-use Prim.Native.Nat.{ℕ, _+_, _-_, _*_, _≤_, _<_}
-use mathlib.Core.Path.{_≡_}
+use Prim.Native.Nat.{ℕ, _+_, _-_, _≤_, _<_}
+use mathlib.Core.Path.{_≡_, refl, sym, _∙_, ap}
+use mathlib.Core.List.{List, [], _∷_, _++_}
 use native.Mathlib.Omega.{arith}
-use lib.ListN.{length}
+use lib.ListN.{length, take, drop, getD}
+use Rattle.hex.specs.Text.{endOf, textAt, numberText}
+use lib.Ieee.{nan}
+use Rattle.answers.specs.Text.{nextText, eachText}
+use Rattle.answers.proofs.Joining.{Written, Left, begun, further, finished, left-is}
+use Rattle.answers.proofs.Lists.{each-first, each-end}
 use borrow.Author.Needs.{needs}
 use Rattle.answers.proofs.put_each.Statement.{statement}
 use Rattle.answers.proofs.put_each.Tie as tie
@@ -10,13 +16,13 @@ use Rattle.answers.proofs.put_each.Lts as lts
 use Rattle.answers.proofs.put_next.Reads as put-next-reads
 
 abbrev Inv-loop : tie.InvT-loop
-Inv-loop out₀ at xs n₀ i₀ out n i = (i ≤ length xs) × (length out ≡ length out₀)
+Inv-loop out₀ at xs n₀ i₀ out n i = (i ≤ length xs) × Left out₀ at (eachText xs) out n (eachText (drop i xs))
 
 abbrev μ-loop : tie.MeasureT-loop
 μ-loop out₀ at xs n₀ i₀ out n i = length xs - i
 
 loop-holds : tie.Need-loop-holds Inv-loop μ-loop
-loop-holds c = search needs
+loop-holds c = let A = c .before .before .args in (omega arith, begun (A .out .now) (A .at) (eachText (A .xs .now)))
 
 mul-put-next : tie.Need-mul-put-next Inv-loop μ-loop
 mul-put-next c = search needs
@@ -34,13 +40,19 @@ loop-less : tie.Need-loop-less Inv-loop μ-loop
 loop-less c = search needs
 
 loop-again : tie.Need-loop-again Inv-loop μ-loop
-loop-again c = search needs
+loop-again c =
+    let A = c .before .before .before .before .before .before .before .before .before .args in let L = c .before .before .before .before .before .before .loop in let P = c .before .before .put-next in
+    let w : Written (L .out) (L .n) (nextText (getD (A .xs .now) (L .i) nan)) (P .result) (P .last .0) = record { ends = P .ensures .0; holds = P .ensures .1 } in
+    (omega arith, further (left-is (each-first (A .xs .now) (L .i) (omega arith)) (L .inv .1)) w)
 
 same-length : tie.Need-same-length Inv-loop μ-loop
-same-length c = search needs
+same-length c = c .before .loop .inv .1 .same
 
 returns : tie.Need-returns Inv-loop μ-loop
-returns c = search needs
+returns c =
+    let A = c .before .before .before .before .args in let L = c .before .loop in
+    let all = finished (left-is (each-end (A .xs .now) (L .i) (omega arith)) (L .inv .1)) in
+    (all .ends, all .holds)
 
 pub put-each-spec : {M : Type 1} → statement M
 put-each-spec =

@@ -1,7 +1,14 @@
-use Prim.Native.Nat.{ℕ, _+_, _-_, _*_, _≤_, _<_}
-use mathlib.Core.Path.{_≡_}
+use Prim.Native.Nat.{ℕ, _+_, _-_, _/_, _%_, _≤_, _<_}
+use mathlib.Core.Path.{_≡_, refl, sym, _∙_, ap, ap₂}
+use mathlib.Core.List.{List, [], _∷_, _++_}
 use native.Mathlib.Omega.{arith}
-use lib.ListN.{length}
+use native.Mathlib.Nat.{le-of-eq}
+use lib.ListN.{length, take, drop, set, length-set, length-drop}
+use lib.Seq.{take-all}
+use Rattle.hex.specs.Text.{endOf, textAt, numberText}
+use Rattle.answers.specs.Text.{wholeText, decimal}
+use Rattle.answers.proofs.Joining.{length-text}
+use Rattle.answers.proofs.Decimal.{stored-before, no-room, nothing-left, one-digit}
 use borrow.Author.Needs.{needs}
 use Rattle.answers.proofs.put_whole.Statement.{statement}
 use Rattle.answers.proofs.put_whole.Tie as tie
@@ -11,7 +18,7 @@ use Rattle.answers.proofs.digit_byte.Reads as digit-byte-reads
 use Rattle.hex.proofs.put_text.Reads as put-text-reads
 
 abbrev Inv-loop : tie.InvT-loop
-Inv-loop out₀ at x digits₀ first₀ rest₀ out digits first rest = (first ≤ 19) × (length digits ≡ 20) × (length out ≡ length out₀)
+Inv-loop out₀ at x digits₀ first₀ rest₀ out digits first rest = (first ≤ 19) × (length digits ≡ 20) × (out ≡ out₀) × (wholeText x ≡ decimal first rest (drop first digits))
 
 abbrev μ-loop : tie.MeasureT-loop
 μ-loop out₀ at x digits₀ first₀ rest₀ out digits first rest = first
@@ -23,7 +30,8 @@ array-write-digits : tie.Need-array-write-digits Inv-loop μ-loop
 array-write-digits c = search needs
 
 loop-holds : tie.Need-loop-holds Inv-loop μ-loop
-loop-holds c = search needs
+unfolding wholeText
+loop-holds c = let A = c .before .before .args in let D = c .digit-byte in (omega arith, refl, refl, ap (λ (b : ℕ). decimal 19 (A .x / 10) (b ∷ [])) (sym (D .ensures)))
 
 sub-put-text : tie.Need-sub-put-text Inv-loop μ-loop
 sub-put-text c = search needs
@@ -38,10 +46,15 @@ put-text-requires : tie.Need-put-text-requires Inv-loop μ-loop
 put-text-requires c κs = search needs
 
 same-length : tie.Need-same-length Inv-loop μ-loop
-same-length c = search needs
+same-length c =
+    let A = c .before .before .before .before .before .before .before .before .before .before .before .args in let L = c .before .before .before .before .before .before .before .before .loop in
+    ap length (c .before .before .put-text .ensures .1) ∙ length-text (L .out) (A .at) (take (20 - L .first) (drop (L .first) (L .digits))) ∙ ap length (L .inv .2)
 
 returns : tie.Need-returns Inv-loop μ-loop
-returns c = search needs
+returns c =
+    let A = c .before .before .before .before .before .before .before .before .before .before .before .args in let L = c .before .before .before .before .before .before .before .before .loop in let P = c .before .before .put-text in
+    let text : take (20 - L .first) (drop (L .first) (L .digits)) ≡ wholeText (A .x) = take-all (20 - L .first) (drop (L .first) (L .digits)) (le-of-eq (length-drop (L .first) (L .digits) ∙ ap (λ (n : ℕ). n - L .first) (L .inv .1))) ∙ sym (L .inv .3 ∙ nothing-left (L .first) (L .rest) (drop (L .first) (L .digits)) (c .before .before .before .before .before .before .if1 .taken)) in
+    (P .ensures .0 ∙ ap₂ (λ (o s : List ℕ). endOf (length o) (A .at) s) (L .inv .2) text, P .ensures .1 ∙ ap₂ (λ (o s : List ℕ). textAt o (A .at) s) (L .inv .2) text)
 
 sub-first : tie.Need-sub-first Inv-loop μ-loop
 sub-first c = search needs
@@ -56,7 +69,15 @@ loop-less : tie.Need-loop-less Inv-loop μ-loop
 loop-less c = search needs
 
 loop-again : tie.Need-loop-again Inv-loop μ-loop
-loop-again c = search needs
+loop-again c =
+    let A = c .before .before .before .before .before .before .args in let L = c .before .before .before .loop in let D = c .digit-byte2 in
+    let one-less : L .first - 1 + 1 ≡ L .first = omega arith in
+    let kept : drop (L .first - 1) (set (L .digits) (L .first - 1) (D .result)) ≡ (48 + L .rest % 10) ∷ drop (L .first) (L .digits) = stored-before (L .digits) (L .first - 1) (D .result) (omega arith) ∙ ap₂ (λ (b j : ℕ). b ∷ drop j (L .digits)) (D .ensures) one-less in (
+      omega arith,
+      length-set (L .digits) (L .first - 1) (D .result) ∙ L .inv .1,
+      L .inv .2,
+      L .inv .3 ∙ one-digit (L .first) (L .rest) (drop (L .first) (L .digits)) (omega arith) (c .before .if1 .left) ∙ ap (decimal (L .first - 1) (L .rest / 10)) (sym kept),
+    )
 
 sub-put-text-2 : tie.Need-sub-put-text-2 Inv-loop μ-loop
 sub-put-text-2 c = search needs
@@ -71,10 +92,15 @@ put-text-requires-2 : tie.Need-put-text-requires-2 Inv-loop μ-loop
 put-text-requires-2 c κs = search needs
 
 same-length-2 : tie.Need-same-length-2 Inv-loop μ-loop
-same-length-2 c = search needs
+same-length-2 c =
+    let A = c .before .before .before .before .before .before .before .before .before .before .args in let L = c .before .before .before .before .before .before .before .loop in
+    ap length (c .before .before .put-text2 .ensures .1) ∙ length-text (L .out) (A .at) (take (20 - L .first) (drop (L .first) (L .digits))) ∙ ap length (L .inv .2)
 
 returns-2 : tie.Need-returns-2 Inv-loop μ-loop
-returns-2 c = search needs
+returns-2 c =
+    let A = c .before .before .before .before .before .before .before .before .before .before .args in let L = c .before .before .before .before .before .before .before .loop in let P = c .before .before .put-text2 in
+    let text : take (20 - L .first) (drop (L .first) (L .digits)) ≡ wholeText (A .x) = take-all (20 - L .first) (drop (L .first) (L .digits)) (le-of-eq (length-drop (L .first) (L .digits) ∙ ap (λ (n : ℕ). n - L .first) (L .inv .1))) ∙ sym (L .inv .3 ∙ no-room (L .first) (L .rest) (drop (L .first) (L .digits)) (omega arith)) in
+    (P .ensures .0 ∙ ap₂ (λ (o s : List ℕ). endOf (length o) (A .at) s) (L .inv .2) text, P .ensures .1 ∙ ap₂ (λ (o s : List ℕ). textAt o (A .at) s) (L .inv .2) text)
 
 pub put-whole-spec : {M : Type 1} → statement M
 put-whole-spec =

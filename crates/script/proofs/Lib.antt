@@ -1,0 +1,5 @@
+pub mod Leading
+pub mod Counting
+pub mod Comparing
+pub mod Decimal
+pub mod Colon
