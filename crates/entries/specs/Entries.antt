@@ -5,9 +5,13 @@ use mathlib.Core.List.{List, [], _∷_}
 use lib.Dec.{leb, ltb, eqb}
 use lib.ListN.{length, getD, take, drop}
 use lib.Ieee.{Float}
+use lib.Seq.{sets}
+use Rattle.device.specs.Refusals.{Row, unless, _when_}
 use Rattle.keys.specs.Names.{meaningOf}
 use Rattle.keys.specs.Ranges.{outsideOf, tnomOutside, isUnknown}
 use Rattle.keys.specs.declared.Meaning.{Meaning}
+use Rattle.entries.specs.declared.KeysAnswer.{KeysAnswer}
+use Rattle.entries.specs.declared.KeysAnswer.the-variants.{Passed, Refused}
 use Rattle.entries.specs.declared.Scan.{Scan}
 use Rattle.keys.specs.declared.Table.{Table}
 
@@ -83,3 +87,26 @@ scanOf table es =
 abbrev pub scannedWith : Scan → Bool → Meaning → Float → Scan
 scannedWith s high m v =
     record { «beyond_ascii» = high || s .«beyond_ascii»; unknown = cond (isUnknown m) (s .unknown + 1) (s .unknown); outside = outsideOf m v || s .outside; «tnom_outside» = tnomOutside m v || s .«tnom_outside» }
+
+-- ---- the rows that the card and the geometry call share
+
+-- rows 1 to 4; space is the lent list's length
+abbrev pub keyRows : Table → List ℕ → List ℕ → List ℕ → List Float → ℕ → List Row
+keyRows table bytes offsets lengths values space =
+    let es = entriesOf bytes offsets lengths values in
+    (1 when badPairs bytes offsets lengths values)
+    ∷ (2 when anyBeyondAscii es)
+    ∷ (3 when ltb space (unknownCount table es))
+    ∷ (4 when anyOutside table es)
+    ∷ []
+
+-- the count of unknown keys and row 6 for the card's tnom, or the refusal
+unfoldable pub keysOf : Table → List ℕ → List ℕ → List ℕ → List Float → ℕ → KeysAnswer
+keysOf table bytes offsets lengths values space =
+    let es = entriesOf bytes offsets lengths values in
+    unless (keyRows table bytes offsets lengths values space) Refused (Passed (unknownCount table es) (anyTnomOutside table es))
+
+-- the lent list after a call with these rows: the unknown keys' places in order at its front, its rest unchanged; unchanged after
+-- a refusal
+abbrev pub listAfter : List Row → Table → List Entry → List ℕ → List ℕ
+listAfter rows table es list = unless rows (λ _. list) (sets list 0 (unknownFrom table 0 es))

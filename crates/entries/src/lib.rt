@@ -16,6 +16,7 @@ ghost use Rattle.entries.specs.Entries.{
   unknownCount,
   scanOf,
   scannedWith,
+  keysOf,
 };
 use keys::Meaning;
 use keys::Table;
@@ -29,8 +30,15 @@ pub struct Scan {
     pub tnom_outside: bool,
 }
 
+// What rows 1 to 4 leave: the count of unknown keys, and whether a nominal temperature lies outside the limits; or the number of
+// the refusal.
+pub enum KeysAnswer {
+    Passed(usize, bool),
+    Refused(u8),
+}
+
 // Whether a byte of a key is 128 or more.
-pub fn beyond_ascii(key: &[u8]) -> bool
+fn beyond_ascii(key: &[u8]) -> bool
     ensures { λ r. ⌜ r ≡ beyondAscii (now (key .entry)) ⌝ }
 {
     let mut i = 0;
@@ -69,7 +77,7 @@ fn pairs_astray(size: usize, offsets: &[usize], lengths: &[usize]) -> bool
 }
 
 // Row 1.
-pub fn bad_pairs(bytes: &[u8], offsets: &[usize], lengths: &[usize], values: &[f64]) -> bool
+fn bad_pairs(bytes: &[u8], offsets: &[usize], lengths: &[usize], values: &[f64]) -> bool
     ensures { λ r. ⌜ r ≡ badPairs (now (bytes .entry)) (now (offsets .entry)) (now (lengths .entry)) (now (values .entry)) ⌝ }
 {
     if offsets.len() != lengths.len() {
@@ -135,7 +143,7 @@ fn scanned_with(s: Scan, high: bool, m: Meaning, v: f64) -> Scan
 }
 
 // One pass over the keys, from the last to the first.
-pub fn scan_keys(
+fn scan_keys(
     table: Table,
     bytes: &[u8],
     offsets: &[usize],
@@ -159,6 +167,33 @@ pub fn scan_keys(
         s = scanned_with(s, high, m, values[i]);
     }
     s
+}
+
+// Rows 1 to 4, with space for so many places of unknown keys.
+pub fn test_keys(
+    table: Table,
+    bytes: &[u8],
+    offsets: &[usize],
+    lengths: &[usize],
+    values: &[f64],
+    space: usize,
+) -> KeysAnswer
+    ensures { λ r. ⌜ r ≡ keysOf table (now (bytes .entry)) (now (offsets .entry)) (now (lengths .entry)) (now (values .entry)) space ⌝ }
+{
+    if bad_pairs(bytes, offsets, lengths, values) {
+        return KeysAnswer::Refused(1);
+    }
+    let scan = scan_keys(table, bytes, offsets, lengths, values);
+    if scan.beyond_ascii {
+        return KeysAnswer::Refused(2);
+    }
+    if space < scan.unknown {
+        return KeysAnswer::Refused(3);
+    }
+    if scan.outside {
+        return KeysAnswer::Refused(4);
+    }
+    KeysAnswer::Passed(scan.unknown, scan.tnom_outside)
 }
 
 // Writes i at place k of the list where b holds, and gives the next place.
