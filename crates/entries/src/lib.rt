@@ -102,7 +102,7 @@ pub fn meaning_at(
 {
     let at = offsets[i];
     let end = at + lengths[i];
-    keys::meaning_of(table, &bytes[at..end])
+    key_names::meaning_of(table, &bytes[at..end])
 }
 
 // Whether the key at a place has a byte of 128 or more.

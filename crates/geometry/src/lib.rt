@@ -69,30 +69,6 @@ fn set_size(s: Sizes, key: Key, v: f64) -> Sizes
 {
     let mut t = s;
     match key {
-        Key::Vto => t,
-        Key::Kp => t,
-        Key::Uo => t,
-        Key::Is => t,
-        Key::Js => t,
-        Key::Lambda => t,
-        Key::Gamma => t,
-        Key::Phi => t,
-        Key::Rd => t,
-        Key::Rs => t,
-        Key::Rsh => t,
-        Key::Kf => t,
-        Key::Af => t,
-        Key::Cgso => t,
-        Key::Cgdo => t,
-        Key::Cgbo => t,
-        Key::Cox => t,
-        Key::Tox => t,
-        Key::Cj => t,
-        Key::Cjsw => t,
-        Key::Pb => t,
-        Key::Mj => t,
-        Key::Mjsw => t,
-        Key::Fc => t,
         Key::W => {
             t.w = v;
             t
@@ -125,6 +101,7 @@ fn set_size(s: Sizes, key: Key, v: f64) -> Sizes
             t.pd = v;
             t
         }
+        _ => t,
     }
 }
 
