@@ -7,6 +7,7 @@ use lib.ListN.{length, getD, take, drop}
 use lib.Ieee.{Float}
 use lib.Seq.{sets}
 use Rattle.device.specs.Refusals.{Row, unless, _when_}
+pub use Rattle.key_pairs.specs.Pairs.{pairsAstray, badPairs}
 use Rattle.keys.specs.Names.{meaningOf}
 use Rattle.keys.specs.Ranges.{outsideOf, tnomOutside, isUnknown}
 use Rattle.keys.specs.declared.Meaning.{Meaning}
@@ -31,23 +32,6 @@ entriesOf bytes (o ∷ offsets) (n ∷ lengths) (v ∷ values) =
 -- the key of the pair at a place
 abbrev pub keyAt : List ℕ → List ℕ → List ℕ → ℕ → List ℕ
 keyAt bytes offsets lengths i = take (getD lengths i 0) (drop (getD offsets i 0) bytes)
-
--- the pair at a place lies within the key bytes
-pub record Inside (bytes offsets lengths : List ℕ) (i : ℕ) : Type 0 where
-  pub offset : i < length offsets
-  pub size : i < length lengths
-  pub end : getD offsets i 0 + getD lengths i 0 ≤ length bytes
-
--- row 1: a pair starts before the last one's end, or goes past the key bytes, of which there are size
-unfoldable pub pairsAstray : ℕ → ℕ → List ℕ → List ℕ → Bool
-pairsAstray size last [] lengths = false
-pairsAstray size last (o ∷ offsets) [] = false
-pairsAstray size last (o ∷ offsets) (n ∷ lengths) = ltb o last || (ltb size (o + n) || pairsAstray size (o + n) offsets lengths)
-
--- row 1: that, or offsets, lengths and values differ in count
-unfoldable pub badPairs : List ℕ → List ℕ → List ℕ → List Float → Bool
-badPairs bytes offsets lengths values =
-    not (eqb (length offsets) (length lengths)) || (not (eqb (length offsets) (length values)) || pairsAstray (length bytes) 0 offsets lengths)
 
 -- row 2: a byte inside a key is 128 or more
 unfoldable pub beyondAscii : List ℕ → Bool

@@ -1,16 +1,14 @@
-// The keys of a call with their values: rows 1 to 4 and 6 of the refusals, and the places of the unknown keys.
+// The keys of a call with their values: rows 1 to 4 of the refusals, and the places of the unknown keys.
 ghost use mathlib.Core.Path.{_≡_};
 ghost use mathlib.Core.Bool.{true, false, cond, _||_};
 ghost use Prim.Native.Nat.{_+_, _≤_, _<_, _^_};
 ghost use lib.ListN.{length, set};
 ghost use lib.Seq.{sets};
 ghost use Rattle.keys.specs.Names.{meaningOf};
+ghost use Rattle.key_pairs.specs.Pairs.{Inside, badPairs};
 ghost use Rattle.entries.specs.Entries.{
-  Inside,
   keyAt,
   entriesOf,
-  pairsAstray,
-  badPairs,
   beyondAscii,
   unknownFrom,
   unknownCount,
@@ -49,44 +47,6 @@ fn beyond_ascii(key: &[u8]) -> bool
         i += 1;
     }
     false
-}
-
-// Whether a pair starts before the last one's end or goes past the key bytes.
-fn pairs_astray(size: usize, offsets: &[usize], lengths: &[usize]) -> bool
-    requires { ⌜ length (now offsets) ≡ length (now lengths) ⌝ }
-    ensures { λ r. ⌜ r ≡ pairsAstray size 0 (now (offsets .entry)) (now (lengths .entry)) ⌝ }
-{
-    let mut last = 0;
-    let mut i = 0;
-    while i < offsets.len() {
-        let at = offsets[i];
-        let n = lengths[i];
-        if at < last {
-            return true;
-        }
-        if size < at {
-            return true;
-        }
-        if size - at < n {
-            return true;
-        }
-        last = at + n;
-        i += 1;
-    }
-    false
-}
-
-// Row 1.
-fn bad_pairs(bytes: &[u8], offsets: &[usize], lengths: &[usize], values: &[f64]) -> bool
-    ensures { λ r. ⌜ r ≡ badPairs (now (bytes .entry)) (now (offsets .entry)) (now (lengths .entry)) (now (values .entry)) ⌝ }
-{
-    if offsets.len() != lengths.len() {
-        return true;
-    }
-    if offsets.len() != values.len() {
-        return true;
-    }
-    pairs_astray(bytes.len(), offsets, lengths)
 }
 
 // What the key at a place means.
@@ -180,7 +140,7 @@ pub fn test_keys(
 ) -> KeysAnswer
     ensures { λ r. ⌜ r ≡ keysOf table (now (bytes .entry)) (now (offsets .entry)) (now (lengths .entry)) (now (values .entry)) space ⌝ }
 {
-    if bad_pairs(bytes, offsets, lengths, values) {
+    if key_pairs::bad_pairs(bytes, offsets, lengths, values) {
         return KeysAnswer::Refused(1);
     }
     let scan = scan_keys(table, bytes, offsets, lengths, values);
