@@ -1,22 +1,23 @@
--- What the card's proofs share: one key more, the units of temperature, and the call's answers by the tests that lead to them.
+-- What the card's proofs share: one key more, the units of temperature, and the call's answers behind rows 1 to 4.
 use mathlib.Core.Path.{_≡_, sym, ap, _∙_}
-use mathlib.Core.Bool.{Bool, true, false}
-use mathlib.Core.List.{List}
-use Prim.Native.Nat.{ℕ, suc, _+_, _<_, _≤_}
+use mathlib.Core.Bool.{Bool, true, false, cond}
+use mathlib.Core.List.{List, [], _∷_}
+use Prim.Native.Nat.{ℕ, suc, _+_, _<_}
 use native.Mathlib.Numerals.{add-one}
-use borrow.Author.Tests.{lt-ltb, le-ltb}
-use lib.Dec.{ltb}
 use lib.Ieee.{Float, nan}
 use lib.ListN.{length, getD}
 use lib.Seq.{sets}
 use Rattle.temperature.specs.declared.Celsius.{Celsius}
 use Rattle.temperature.specs.declared.Kelvin.{Kelvin}
+use Rattle.device.specs.Refusals.{unless, _when_}
 use Rattle.device.proofs.Branches.{cond-yes, cond-no}
 use Rattle.keys.specs.Names.{meaningOf}
 use Rattle.keys.specs.declared.Table.the-variants as Table
-use Rattle.entries.specs.Entries.{entriesOf, keyAt, badPairs, anyBeyondAscii, unknownFrom, unknownCount, anyOutside, anyTnomOutside}
+use Rattle.entries.specs.Entries.{entriesOf, keyAt, unknownFrom, unknownCount, anyTnomOutside, keyRows, keysOf}
+use Rattle.entries.specs.declared.KeysAnswer.the-variants as Key
 use Rattle.entries.proofs.Entries.{Paired, rest, entry-step}
-use Rattle.card.specs.Card.{assigned, parametersOf, defaultsOf, freshDevice, cardOf, cardListOf}
+use Rattle.entries.proofs.Rows.{NoneOf, later-decide, refused-keys}
+use Rattle.card.specs.Card.{assigned, parametersOf, defaultsOf, freshDevice, cardRows, cardOf, cardListOf}
 use Rattle.card.specs.declared.CardAnswer.the-variants.{Done, Refused}
 use Rattle.card.specs.declared.Parameters.{Parameters}
 
@@ -31,44 +32,23 @@ unfolding parametersOf
 parameter-step bytes offsets lengths values h p i l =
     rw (add-one i) (sym (ap (parametersOf p) (entry-step bytes offsets lengths values h i l)))
 
--- the answer and the list, by the tests that lead to them
-module _ (isPmos : Bool) (bytes offsets lengths : List ℕ) (values : List Float) (list : List ℕ) where
-  -- what a refusal answers
-  abbrev pub Refuses : ℕ → Type 0
-  Refuses n = (Refused n ≡ cardOf isPmos bytes offsets lengths values (length list)) × (list ≡ cardListOf bytes offsets lengths values list)
+-- where rows 1 to 4 do not apply, row 6 decides the answer and the list
+module _ (isPmos : Bool) (bytes offsets lengths : List ℕ) (values : List Float) (list : List ℕ) (h : NoneOf (keyRows Table.Card bytes offsets lengths values (length list))) where
+  by-row-6 : {A : Type 0} (refused : ℕ → A) (x : A) → cond (anyTnomOutside Table.Card (entriesOf bytes offsets lengths values)) (refused 6) x ≡ unless (cardRows bytes offsets lengths values (length list)) refused x
+  by-row-6 refused x =
+      later-decide (keyRows Table.Card bytes offsets lengths values (length list)) ((6 when anyTnomOutside Table.Card (entriesOf bytes offsets lengths values)) ∷ []) refused x h
 
-  pub at-1 : badPairs bytes offsets lengths values ≡ true → Refuses 1
+  pub at-6 : anyTnomOutside Table.Card (entriesOf bytes offsets lengths values) ≡ true → (Refused 6 ≡ cardOf isPmos bytes offsets lengths values (length list)) × (list ≡ cardListOf bytes offsets lengths values list)
   unfolding cardOf cardListOf
-  at-1 t = (cond-yes _ _ t, cond-yes _ _ t)
+  at-6 t = (cond-yes _ _ t ∙ by-row-6 Refused _, cond-yes _ _ t ∙ by-row-6 (λ _. list) _)
 
-  module _ (one : badPairs bytes offsets lengths values ≡ false) where
-    pub at-2 : anyBeyondAscii (entriesOf bytes offsets lengths values) ≡ true → Refuses 2
-    unfolding cardOf cardListOf
-    at-2 t = (cond-yes _ _ t ∙ cond-no _ _ one, cond-yes _ _ t ∙ cond-no _ _ one)
+  pub accepted : anyTnomOutside Table.Card (entriesOf bytes offsets lengths values) ≡ false → (Done (freshDevice isPmos (parametersOf (defaultsOf isPmos) (entriesOf bytes offsets lengths values))) (unknownCount Table.Card (entriesOf bytes offsets lengths values)) ≡ cardOf isPmos bytes offsets lengths values (length list)) × (sets list 0 (unknownFrom Table.Card 0 (entriesOf bytes offsets lengths values)) ≡ cardListOf bytes offsets lengths values list)
+  unfolding cardOf cardListOf
+  accepted t = (cond-no _ _ t ∙ by-row-6 Refused _, cond-no _ _ t ∙ by-row-6 (λ _. list) _)
 
-    module _ (two : anyBeyondAscii (entriesOf bytes offsets lengths values) ≡ false) where
-      pub at-3 : length list < unknownCount Table.Card (entriesOf bytes offsets lengths values) → Refuses 3
-      unfolding cardOf cardListOf
-      at-3 h =
-          let t = lt-ltb (length list) (unknownCount Table.Card (entriesOf bytes offsets lengths values)) h in
-          (cond-yes _ _ t ∙ cond-no _ _ two ∙ cond-no _ _ one, cond-yes _ _ t ∙ cond-no _ _ two ∙ cond-no _ _ one)
-
-      module _ (room : unknownCount Table.Card (entriesOf bytes offsets lengths values) ≤ length list) where
-        three : ltb (length list) (unknownCount Table.Card (entriesOf bytes offsets lengths values)) ≡ false
-        three = le-ltb (length list) (unknownCount Table.Card (entriesOf bytes offsets lengths values)) room
-
-        pub at-4 : anyOutside Table.Card (entriesOf bytes offsets lengths values) ≡ true → Refuses 4
-        unfolding cardOf cardListOf
-        at-4 t =
-            (cond-yes _ _ t ∙ cond-no _ _ three ∙ cond-no _ _ two ∙ cond-no _ _ one, cond-yes _ _ t ∙ cond-no _ _ three ∙ cond-no _ _ two ∙ cond-no _ _ one)
-
-        module _ (four : anyOutside Table.Card (entriesOf bytes offsets lengths values) ≡ false) where
-          pub at-6 : anyTnomOutside Table.Card (entriesOf bytes offsets lengths values) ≡ true → Refuses 6
-          unfolding cardOf cardListOf
-          at-6 t =
-              (cond-yes _ _ t ∙ cond-no _ _ four ∙ cond-no _ _ three ∙ cond-no _ _ two ∙ cond-no _ _ one, cond-yes _ _ t ∙ cond-no _ _ four ∙ cond-no _ _ three ∙ cond-no _ _ two ∙ cond-no _ _ one)
-
-          pub accepted : anyTnomOutside Table.Card (entriesOf bytes offsets lengths values) ≡ false → (Done (freshDevice isPmos (parametersOf (defaultsOf isPmos) (entriesOf bytes offsets lengths values))) (unknownCount Table.Card (entriesOf bytes offsets lengths values)) ≡ cardOf isPmos bytes offsets lengths values (length list)) × (sets list 0 (unknownFrom Table.Card 0 (entriesOf bytes offsets lengths values)) ≡ cardListOf bytes offsets lengths values list)
-          unfolding cardOf cardListOf
-          accepted t =
-              (cond-no _ _ t ∙ cond-no _ _ four ∙ cond-no _ _ three ∙ cond-no _ _ two ∙ cond-no _ _ one, cond-no _ _ t ∙ cond-no _ _ four ∙ cond-no _ _ three ∙ cond-no _ _ two ∙ cond-no _ _ one)
+-- a refusal by rows 1 to 4
+pub at-keys : (isPmos : Bool) (bytes offsets lengths : List ℕ) (values : List Float) (list : List ℕ) (n : ℕ) → keysOf Table.Card bytes offsets lengths values (length list) ≡ Key.Refused n → (Refused n ≡ cardOf isPmos bytes offsets lengths values (length list)) × (list ≡ cardListOf bytes offsets lengths values list)
+unfolding cardOf cardListOf
+at-keys isPmos bytes offsets lengths values list n e =
+    let later = (6 when anyTnomOutside Table.Card (entriesOf bytes offsets lengths values)) ∷ [] in
+    (refused-keys Table.Card bytes offsets lengths values (length list) n later Refused _ e, refused-keys Table.Card bytes offsets lengths values (length list) n later (λ _. list) _ e)

@@ -1,11 +1,9 @@
 -- A model card: its parameters after all keys, and the device that they make.
 use Prim.Native.Nat.{ℕ}
 use mathlib.Core.Bool.{Bool, true, false, cond}
-use mathlib.Core.List.{List, [], _∷_}
-use lib.Dec.{ltb}
+use mathlib.Core.List.{List, [], _∷_, _++_}
 use lib.Ieee.{Float, binary64, ofBits, neg}
 use lib.ListN.{length}
-use lib.Seq.{sets}
 use Rattle.exact.specs.Float64.{_⊕_, _⊖_, _⊗_, _⊘_, _>f_, +0, +1}
 use Rattle.temperature.specs.Constants.{iceOf, tnomDefaultK}
 use Rattle.temperature.specs.declared.Celsius.{Celsius}
@@ -30,7 +28,7 @@ use Rattle.keys.specs.declared.Key.the-variants.{Vto, Kp, Uo, Is, Js, Lambda, G
 use Rattle.keys.specs.declared.Meaning.{Meaning}
 use Rattle.keys.specs.declared.Meaning.the-variants.{Sets, Tnom, Unread, Unknown}
 use Rattle.keys.specs.declared.Table.the-variants as Table
-use Rattle.entries.specs.Entries.{Entry, entriesOf, badPairs, anyBeyondAscii, unknownFrom, unknownCount, anyOutside, anyTnomOutside}
+use Rattle.entries.specs.Entries.{Entry, entriesOf, unknownCount, anyTnomOutside, keyRows, listAfter}
 use Rattle.card.specs.declared.CardAnswer.{CardAnswer}
 use Rattle.card.specs.declared.CardAnswer.the-variants.{Done, Refused}
 use Rattle.card.specs.declared.Parameters.{Parameters}
@@ -319,13 +317,7 @@ freshDevice isPmos p =
 -- its refusals; space is the lent list's length
 abbrev pub cardRows : List ℕ → List ℕ → List ℕ → List Float → ℕ → List Row
 cardRows bytes offsets lengths values space =
-    let es = entriesOf bytes offsets lengths values in
-    (1 when badPairs bytes offsets lengths values)
-    ∷ (2 when anyBeyondAscii es)
-    ∷ (3 when ltb space (unknownCount Table.Card es))
-    ∷ (4 when anyOutside Table.Card es)
-    ∷ (6 when anyTnomOutside Table.Card es)
-    ∷ []
+    keyRows Table.Card bytes offsets lengths values space ++ ((6 when anyTnomOutside Table.Card (entriesOf bytes offsets lengths values)) ∷ [])
 
 -- the device and the count of unknown keys, or the refusal
 unfoldable pub cardOf : Bool → List ℕ → List ℕ → List ℕ → List Float → ℕ → CardAnswer
@@ -333,7 +325,6 @@ cardOf isPmos bytes offsets lengths values space =
     let es = entriesOf bytes offsets lengths values in
     unless (cardRows bytes offsets lengths values space) Refused (Done (freshDevice isPmos (parametersOf (defaultsOf isPmos) es)) (unknownCount Table.Card es))
 
--- the lent list: the unknown keys' places in order at its front, its rest unchanged; unchanged after a refusal
 unfoldable pub cardListOf : List ℕ → List ℕ → List ℕ → List Float → List ℕ → List ℕ
 cardListOf bytes offsets lengths values list =
-    unless (cardRows bytes offsets lengths values (length list)) (λ _. list) (sets list 0 (unknownFrom Table.Card 0 (entriesOf bytes offsets lengths values)))
+    listAfter (cardRows bytes offsets lengths values (length list)) Table.Card (entriesOf bytes offsets lengths values) list

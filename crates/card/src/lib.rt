@@ -37,6 +37,7 @@ use device::OperatingPoint;
 use device::Scaled;
 use device::Stage;
 use device::Terminals;
+use entries::KeysAnswer;
 use keys::Key;
 use keys::Meaning;
 use keys::Table;
@@ -491,25 +492,16 @@ pub fn from_model_params(
     ensures { λ r. ⌜ (r ≡ cardOf «is_pmos» (now (bytes .entry)) (now (offsets .entry)) (now (lengths .entry)) (now (values .entry)) (length (now (unknown .entry))))
         × (now (unknown .exit) ≡ cardListOf (now (bytes .entry)) (now (offsets .entry)) (now (lengths .entry)) (now (values .entry)) (now (unknown .entry))) ⌝ }
 {
-    if entries::bad_pairs(bytes, offsets, lengths, values) {
-        return CardAnswer::Refused(1);
+    let tested = entries::test_keys(Table::Card, bytes, offsets, lengths, values, unknown.len());
+    match tested {
+        KeysAnswer::Refused(row) => CardAnswer::Refused(row),
+        KeysAnswer::Passed(count, tnom_outside) => {
+            if tnom_outside {
+                return CardAnswer::Refused(6);
+            }
+            let p = read_parameters(defaults(is_pmos), bytes, offsets, lengths, values);
+            entries::list_unknown(Table::Card, bytes, offsets, lengths, values, unknown);
+            CardAnswer::Done(fresh_device(is_pmos, p), count)
+        }
     }
-    let scan = entries::scan_keys(Table::Card, bytes, offsets, lengths, values);
-    let count = scan.unknown;
-    if scan.beyond_ascii {
-        return CardAnswer::Refused(2);
-    }
-    if unknown.len() < count {
-        return CardAnswer::Refused(3);
-    }
-    if scan.outside {
-        return CardAnswer::Refused(4);
-    }
-    if scan.tnom_outside {
-        return CardAnswer::Refused(6);
-    }
-    let p = read_parameters(defaults(is_pmos), bytes, offsets, lengths, values);
-    entries::list_unknown(Table::Card, bytes, offsets, lengths, values, unknown);
-    let device = fresh_device(is_pmos, p);
-    CardAnswer::Done(device, count)
 }

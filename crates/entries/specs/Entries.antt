@@ -5,9 +5,14 @@ use mathlib.Core.List.{List, [], _∷_}
 use lib.Dec.{leb, ltb, eqb}
 use lib.ListN.{length, getD, take, drop}
 use lib.Ieee.{Float}
+use lib.Seq.{sets}
+use Rattle.device.specs.Refusals.{Row, unless, _when_}
+pub use Rattle.key_pairs.specs.Pairs.{pairsAstray, badPairs}
 use Rattle.keys.specs.Names.{meaningOf}
 use Rattle.keys.specs.Ranges.{outsideOf, tnomOutside, isUnknown}
 use Rattle.keys.specs.declared.Meaning.{Meaning}
+use Rattle.entries.specs.declared.KeysAnswer.{KeysAnswer}
+use Rattle.entries.specs.declared.KeysAnswer.the-variants.{Passed, Refused}
 use Rattle.entries.specs.declared.Scan.{Scan}
 use Rattle.keys.specs.declared.Table.{Table}
 
@@ -27,23 +32,6 @@ entriesOf bytes (o ∷ offsets) (n ∷ lengths) (v ∷ values) =
 -- the key of the pair at a place
 abbrev pub keyAt : List ℕ → List ℕ → List ℕ → ℕ → List ℕ
 keyAt bytes offsets lengths i = take (getD lengths i 0) (drop (getD offsets i 0) bytes)
-
--- the pair at a place lies within the key bytes
-pub record Inside (bytes offsets lengths : List ℕ) (i : ℕ) : Type 0 where
-  pub offset : i < length offsets
-  pub size : i < length lengths
-  pub end : getD offsets i 0 + getD lengths i 0 ≤ length bytes
-
--- row 1: a pair starts before the last one's end, or goes past the key bytes, of which there are size
-unfoldable pub pairsAstray : ℕ → ℕ → List ℕ → List ℕ → Bool
-pairsAstray size last [] lengths = false
-pairsAstray size last (o ∷ offsets) [] = false
-pairsAstray size last (o ∷ offsets) (n ∷ lengths) = ltb o last || (ltb size (o + n) || pairsAstray size (o + n) offsets lengths)
-
--- row 1: that, or offsets, lengths and values differ in count
-unfoldable pub badPairs : List ℕ → List ℕ → List ℕ → List Float → Bool
-badPairs bytes offsets lengths values =
-    not (eqb (length offsets) (length lengths)) || (not (eqb (length offsets) (length values)) || pairsAstray (length bytes) 0 offsets lengths)
 
 -- row 2: a byte inside a key is 128 or more
 unfoldable pub beyondAscii : List ℕ → Bool
@@ -83,3 +71,26 @@ scanOf table es =
 abbrev pub scannedWith : Scan → Bool → Meaning → Float → Scan
 scannedWith s high m v =
     record { «beyond_ascii» = high || s .«beyond_ascii»; unknown = cond (isUnknown m) (s .unknown + 1) (s .unknown); outside = outsideOf m v || s .outside; «tnom_outside» = tnomOutside m v || s .«tnom_outside» }
+
+-- ---- the rows that the card and the geometry call share
+
+-- rows 1 to 4; space is the lent list's length
+abbrev pub keyRows : Table → List ℕ → List ℕ → List ℕ → List Float → ℕ → List Row
+keyRows table bytes offsets lengths values space =
+    let es = entriesOf bytes offsets lengths values in
+    (1 when badPairs bytes offsets lengths values)
+    ∷ (2 when anyBeyondAscii es)
+    ∷ (3 when ltb space (unknownCount table es))
+    ∷ (4 when anyOutside table es)
+    ∷ []
+
+-- the count of unknown keys and row 6 for the card's tnom, or the refusal
+unfoldable pub keysOf : Table → List ℕ → List ℕ → List ℕ → List Float → ℕ → KeysAnswer
+keysOf table bytes offsets lengths values space =
+    let es = entriesOf bytes offsets lengths values in
+    unless (keyRows table bytes offsets lengths values space) Refused (Passed (unknownCount table es) (anyTnomOutside table es))
+
+-- the lent list after a call with these rows: the unknown keys' places in order at its front, its rest unchanged; unchanged after
+-- a refusal
+abbrev pub listAfter : List Row → Table → List Entry → List ℕ → List ℕ
+listAfter rows table es list = unless rows (λ _. list) (sets list 0 (unknownFrom table 0 es))

@@ -1,21 +1,20 @@
-// The keys of a call with their values: rows 1 to 4 and 6 of the refusals, and the places of the unknown keys.
+// The keys of a call with their values: rows 1 to 4 of the refusals, and the places of the unknown keys.
 ghost use mathlib.Core.Path.{_≡_};
 ghost use mathlib.Core.Bool.{true, false, cond, _||_};
 ghost use Prim.Native.Nat.{_+_, _≤_, _<_, _^_};
 ghost use lib.ListN.{length, set};
 ghost use lib.Seq.{sets};
 ghost use Rattle.keys.specs.Names.{meaningOf};
+ghost use Rattle.key_pairs.specs.Pairs.{Inside, badPairs};
 ghost use Rattle.entries.specs.Entries.{
-  Inside,
   keyAt,
   entriesOf,
-  pairsAstray,
-  badPairs,
   beyondAscii,
   unknownFrom,
   unknownCount,
   scanOf,
   scannedWith,
+  keysOf,
 };
 use keys::Meaning;
 use keys::Table;
@@ -29,8 +28,15 @@ pub struct Scan {
     pub tnom_outside: bool,
 }
 
+// What rows 1 to 4 leave: the count of unknown keys, and whether a nominal temperature lies outside the limits; or the number of
+// the refusal.
+pub enum KeysAnswer {
+    Passed(usize, bool),
+    Refused(u8),
+}
+
 // Whether a byte of a key is 128 or more.
-pub fn beyond_ascii(key: &[u8]) -> bool
+fn beyond_ascii(key: &[u8]) -> bool
     ensures { λ r. ⌜ r ≡ beyondAscii (now (key .entry)) ⌝ }
 {
     let mut i = 0;
@@ -41,44 +47,6 @@ pub fn beyond_ascii(key: &[u8]) -> bool
         i += 1;
     }
     false
-}
-
-// Whether a pair starts before the last one's end or goes past the key bytes.
-fn pairs_astray(size: usize, offsets: &[usize], lengths: &[usize]) -> bool
-    requires { ⌜ length (now offsets) ≡ length (now lengths) ⌝ }
-    ensures { λ r. ⌜ r ≡ pairsAstray size 0 (now (offsets .entry)) (now (lengths .entry)) ⌝ }
-{
-    let mut last = 0;
-    let mut i = 0;
-    while i < offsets.len() {
-        let at = offsets[i];
-        let n = lengths[i];
-        if at < last {
-            return true;
-        }
-        if size < at {
-            return true;
-        }
-        if size - at < n {
-            return true;
-        }
-        last = at + n;
-        i += 1;
-    }
-    false
-}
-
-// Row 1.
-pub fn bad_pairs(bytes: &[u8], offsets: &[usize], lengths: &[usize], values: &[f64]) -> bool
-    ensures { λ r. ⌜ r ≡ badPairs (now (bytes .entry)) (now (offsets .entry)) (now (lengths .entry)) (now (values .entry)) ⌝ }
-{
-    if offsets.len() != lengths.len() {
-        return true;
-    }
-    if offsets.len() != values.len() {
-        return true;
-    }
-    pairs_astray(bytes.len(), offsets, lengths)
 }
 
 // What the key at a place means.
@@ -94,7 +62,7 @@ pub fn meaning_at(
 {
     let at = offsets[i];
     let end = at + lengths[i];
-    keys::meaning_of(table, &bytes[at..end])
+    key_names::meaning_of(table, &bytes[at..end])
 }
 
 // Whether the key at a place has a byte of 128 or more.
@@ -135,7 +103,7 @@ fn scanned_with(s: Scan, high: bool, m: Meaning, v: f64) -> Scan
 }
 
 // One pass over the keys, from the last to the first.
-pub fn scan_keys(
+fn scan_keys(
     table: Table,
     bytes: &[u8],
     offsets: &[usize],
@@ -159,6 +127,33 @@ pub fn scan_keys(
         s = scanned_with(s, high, m, values[i]);
     }
     s
+}
+
+// Rows 1 to 4, with space for so many places of unknown keys.
+pub fn test_keys(
+    table: Table,
+    bytes: &[u8],
+    offsets: &[usize],
+    lengths: &[usize],
+    values: &[f64],
+    space: usize,
+) -> KeysAnswer
+    ensures { λ r. ⌜ r ≡ keysOf table (now (bytes .entry)) (now (offsets .entry)) (now (lengths .entry)) (now (values .entry)) space ⌝ }
+{
+    if key_pairs::bad_pairs(bytes, offsets, lengths, values) {
+        return KeysAnswer::Refused(1);
+    }
+    let scan = scan_keys(table, bytes, offsets, lengths, values);
+    if scan.beyond_ascii {
+        return KeysAnswer::Refused(2);
+    }
+    if space < scan.unknown {
+        return KeysAnswer::Refused(3);
+    }
+    if scan.outside {
+        return KeysAnswer::Refused(4);
+    }
+    KeysAnswer::Passed(scan.unknown, scan.tnom_outside)
 }
 
 // Writes i at place k of the list where b holds, and gives the next place.

@@ -1,25 +1,26 @@
 -- What the geometry's proofs share: one key more, a product's test, and the call's answers by the tests that lead to them.
 use mathlib.Core.Path.{_≡_, refl, sym, ap, _∙_}
 use mathlib.Core.Bool.{Bool, true, false, _&&_, and-false}
-use mathlib.Core.List.{List}
-use Prim.Native.Nat.{ℕ, suc, _+_, _<_, _≤_}
+use mathlib.Core.List.{List, [], _∷_}
+use Prim.Native.Nat.{ℕ, suc, _+_, _<_}
 use native.Mathlib.Numerals.{add-one}
 use native.Mathlib.Omega.{arith}
-use borrow.Author.Tests.{lt-ltb, le-ltb}
-use lib.Dec.{ltb}
 use lib.Ieee.{Float, nan, inf, fin, binary64, lt, div, ofBits}
 use lib.ListN.{length, getD}
 use lib.Seq.{sets}
 use Rattle.exact.specs.Float64.{_⊘_, _<f_, _>f_, +0, +1}
+use Rattle.device.specs.Refusals.{Row, unless, _when_}
 use Rattle.device.specs.Stages.{before}
 use Rattle.device.specs.declared.Mosfet1.{Mosfet1}
 use Rattle.device.specs.declared.Stage.the-variants.{Scaled}
 use Rattle.device.proofs.Branches.{cond-yes, cond-no}
 use Rattle.keys.specs.Names.{meaningOf}
 use Rattle.keys.specs.declared.Table.the-variants as Table
-use Rattle.entries.specs.Entries.{entriesOf, keyAt, badPairs, anyBeyondAscii, unknownFrom, unknownCount, anyOutside}
+use Rattle.entries.specs.Entries.{entriesOf, keyAt, unknownFrom, unknownCount, keyRows, keysOf}
+use Rattle.entries.specs.declared.KeysAnswer.the-variants as Key
 use Rattle.entries.proofs.Entries.{Paired, rest, entry-step}
-use Rattle.geometry.specs.Geometry.{assigned, sizesOf, finite, oxideMissing, sizedTo, sizesGiven, geometryOf, geometryListOf}
+use Rattle.entries.proofs.Rows.{NoneOf, later-decide, refused-keys}
+use Rattle.geometry.specs.Geometry.{assigned, sizesOf, finite, oxideMissing, sizedTo, sizesGiven, geometryRows, geometryOf, geometryListOf}
 use Rattle.geometry.specs.declared.GeometryAnswer.the-variants.{Done, Refused}
 use Rattle.geometry.specs.declared.Sizes.{Sizes}
 
@@ -52,51 +53,40 @@ unfolding sizesOf
 size-step bytes offsets lengths values h s i l =
     rw (add-one i) (sym (ap (sizesOf s) (entry-step bytes offsets lengths values h i l)))
 
--- the answer and the list, by the tests that lead to them
+-- ---- the answer and the list, by the tests that lead to them
+
 module _ (d : Mosfet1) (bytes offsets lengths : List ℕ) (values : List Float) (list : List ℕ) where
   abbrev pub no-oxide : Bool
   no-oxide =
       let s = sizesGiven d bytes offsets lengths values in oxideMissing (d .card .kf) (s .w) (s .l) (d .card .cox)
 
+  abbrev later : List Row
+  later = (5 when no-oxide) ∷ (10 when before Scaled (d .stage)) ∷ []
+
   -- what a refusal answers
   abbrev pub Refuses : ℕ → Type 0
   Refuses n = (Refused n ≡ geometryOf d bytes offsets lengths values (length list)) × (list ≡ geometryListOf d bytes offsets lengths values list)
 
-  pub at-1 : badPairs bytes offsets lengths values ≡ true → Refuses 1
+  pub at-keys : (n : ℕ) → keysOf Table.Geometry bytes offsets lengths values (length list) ≡ Key.Refused n → Refuses n
   unfolding geometryOf geometryListOf
-  at-1 t = (cond-yes _ _ t, cond-yes _ _ t)
+  at-keys n e =
+      (refused-keys Table.Geometry bytes offsets lengths values (length list) n later Refused _ e, refused-keys Table.Geometry bytes offsets lengths values (length list) n later (λ _. list) _ e)
 
-  module _ (one : badPairs bytes offsets lengths values ≡ false) where
-    pub at-2 : anyBeyondAscii (entriesOf bytes offsets lengths values) ≡ true → Refuses 2
+  -- rows 1 to 4 do not apply
+  module _ (h : NoneOf (keyRows Table.Geometry bytes offsets lengths values (length list))) where
+    by-later : {A : Type 0} (refused : ℕ → A) (x : A) → unless later refused x ≡ unless (geometryRows d bytes offsets lengths values (length list)) refused x
+    by-later refused x =
+        later-decide (keyRows Table.Geometry bytes offsets lengths values (length list)) later refused x h
+
+    pub at-5 : no-oxide ≡ true → Refuses 5
     unfolding geometryOf geometryListOf
-    at-2 t = (cond-yes _ _ t ∙ cond-no _ _ one, cond-yes _ _ t ∙ cond-no _ _ one)
+    at-5 t = (cond-yes _ _ t ∙ by-later Refused _, cond-yes _ _ t ∙ by-later (λ _. list) _)
 
-    module _ (two : anyBeyondAscii (entriesOf bytes offsets lengths values) ≡ false) where
-      pub at-3 : length list < unknownCount Table.Geometry (entriesOf bytes offsets lengths values) → Refuses 3
+    module _ (five : no-oxide ≡ false) where
+      pub at-10 : before Scaled (d .stage) ≡ true → Refuses 10
       unfolding geometryOf geometryListOf
-      at-3 h =
-          let t = lt-ltb (length list) (unknownCount Table.Geometry (entriesOf bytes offsets lengths values)) h in
-          (cond-yes _ _ t ∙ cond-no _ _ two ∙ cond-no _ _ one, cond-yes _ _ t ∙ cond-no _ _ two ∙ cond-no _ _ one)
+      at-10 t = (cond-yes _ _ t ∙ cond-no _ _ five ∙ by-later Refused _, cond-yes _ _ t ∙ cond-no _ _ five ∙ by-later (λ _. list) _)
 
-      module _ (room : unknownCount Table.Geometry (entriesOf bytes offsets lengths values) ≤ length list) where
-        three : ltb (length list) (unknownCount Table.Geometry (entriesOf bytes offsets lengths values)) ≡ false
-        three = le-ltb (length list) (unknownCount Table.Geometry (entriesOf bytes offsets lengths values)) room
-
-        pub at-4 : anyOutside Table.Geometry (entriesOf bytes offsets lengths values) ≡ true → Refuses 4
-        unfolding geometryOf geometryListOf
-        at-4 t =
-            (cond-yes _ _ t ∙ cond-no _ _ three ∙ cond-no _ _ two ∙ cond-no _ _ one, cond-yes _ _ t ∙ cond-no _ _ three ∙ cond-no _ _ two ∙ cond-no _ _ one)
-
-        module _ (four : anyOutside Table.Geometry (entriesOf bytes offsets lengths values) ≡ false) where
-          pub at-5 : no-oxide ≡ true → Refuses 5
-          unfolding geometryOf geometryListOf
-          at-5 t = (cond-yes _ _ t ∙ cond-no _ _ four ∙ cond-no _ _ three ∙ cond-no _ _ two ∙ cond-no _ _ one, cond-yes _ _ t ∙ cond-no _ _ four ∙ cond-no _ _ three ∙ cond-no _ _ two ∙ cond-no _ _ one)
-
-          module _ (five : no-oxide ≡ false) where
-            pub at-10 : before Scaled (d .stage) ≡ true → Refuses 10
-            unfolding geometryOf geometryListOf
-            at-10 t = (cond-yes _ _ t ∙ cond-no _ _ five ∙ cond-no _ _ four ∙ cond-no _ _ three ∙ cond-no _ _ two ∙ cond-no _ _ one, cond-yes _ _ t ∙ cond-no _ _ five ∙ cond-no _ _ four ∙ cond-no _ _ three ∙ cond-no _ _ two ∙ cond-no _ _ one)
-
-            pub accepted : before Scaled (d .stage) ≡ false → (Done (sizedTo d (sizesGiven d bytes offsets lengths values)) (unknownCount Table.Geometry (entriesOf bytes offsets lengths values)) ≡ geometryOf d bytes offsets lengths values (length list)) × (sets list 0 (unknownFrom Table.Geometry 0 (entriesOf bytes offsets lengths values)) ≡ geometryListOf d bytes offsets lengths values list)
-            unfolding geometryOf geometryListOf
-            accepted t = (cond-no _ _ t ∙ cond-no _ _ five ∙ cond-no _ _ four ∙ cond-no _ _ three ∙ cond-no _ _ two ∙ cond-no _ _ one, cond-no _ _ t ∙ cond-no _ _ five ∙ cond-no _ _ four ∙ cond-no _ _ three ∙ cond-no _ _ two ∙ cond-no _ _ one)
+      pub accepted : before Scaled (d .stage) ≡ false → (Done (sizedTo d (sizesGiven d bytes offsets lengths values)) (unknownCount Table.Geometry (entriesOf bytes offsets lengths values)) ≡ geometryOf d bytes offsets lengths values (length list)) × (sets list 0 (unknownFrom Table.Geometry 0 (entriesOf bytes offsets lengths values)) ≡ geometryListOf d bytes offsets lengths values list)
+      unfolding geometryOf geometryListOf
+      accepted t = (cond-no _ _ t ∙ cond-no _ _ five ∙ by-later Refused _, cond-no _ _ t ∙ cond-no _ _ five ∙ by-later (λ _. list) _)

@@ -1,11 +1,9 @@
 -- The geometry call: an instance's sizes after all keys, and what follows from them and the card.
 use Prim.Native.Nat.{ℕ}
 use mathlib.Core.Bool.{Bool, true, false, cond, not, _&&_}
-use mathlib.Core.List.{List, [], _∷_}
-use lib.Dec.{ltb}
+use mathlib.Core.List.{List, [], _∷_, _++_}
 use lib.Ieee.{Float, nan, inf, fin, binary64, ofBits}
 use lib.ListN.{length}
-use lib.Seq.{sets}
 use Rattle.exact.specs.Float64.{_⊗_, _⊘_, _>f_, +0}
 use Rattle.device.specs.Refusals.{Row, unless, _when_}
 use Rattle.device.specs.Stages.{before}
@@ -21,7 +19,7 @@ use Rattle.keys.specs.Picks.{pick}
 use Rattle.keys.specs.declared.Key.the-variants.{W, L, Nrd, Nrs, As, Ad, Ps, Pd}
 use Rattle.keys.specs.declared.Meaning.{Meaning}
 use Rattle.keys.specs.declared.Table.the-variants as Table
-use Rattle.entries.specs.Entries.{Entry, entriesOf, badPairs, anyBeyondAscii, unknownFrom, unknownCount, anyOutside}
+use Rattle.entries.specs.Entries.{Entry, entriesOf, unknownCount, keyRows, listAfter}
 use Rattle.geometry.specs.declared.GeometryAnswer.{GeometryAnswer}
 use Rattle.geometry.specs.declared.GeometryAnswer.the-variants.{Done, Refused}
 use Rattle.geometry.specs.declared.Sizes.{Sizes}
@@ -130,22 +128,15 @@ sizesGiven d bytes offsets lengths values =
 -- its refusals; space is the lent list's length. Row 10: after binding
 abbrev pub geometryRows : Mosfet1 → List ℕ → List ℕ → List ℕ → List Float → ℕ → List Row
 geometryRows d bytes offsets lengths values space =
-    let es = entriesOf bytes offsets lengths values in
     let s = sizesGiven d bytes offsets lengths values in
-    (1 when badPairs bytes offsets lengths values)
-    ∷ (2 when anyBeyondAscii es)
-    ∷ (3 when ltb space (unknownCount Table.Geometry es))
-    ∷ (4 when anyOutside Table.Geometry es)
-    ∷ (5 when oxideMissing (d .card .kf) (s .w) (s .l) (d .card .cox))
-    ∷ (10 when before Stage.Scaled (d .stage))
-    ∷ []
+    keyRows Table.Geometry bytes offsets lengths values space
+    ++ ((5 when oxideMissing (d .card .kf) (s .w) (s .l) (d .card .cox)) ∷ (10 when before Stage.Scaled (d .stage)) ∷ [])
 
 -- the device and the count of unknown keys, or the refusal
 unfoldable pub geometryOf : Mosfet1 → List ℕ → List ℕ → List ℕ → List Float → ℕ → GeometryAnswer
 geometryOf d bytes offsets lengths values space =
     unless (geometryRows d bytes offsets lengths values space) Refused (Done (sizedTo d (sizesGiven d bytes offsets lengths values)) (unknownCount Table.Geometry (entriesOf bytes offsets lengths values)))
 
--- the lent list: the unknown keys' places in order at its front, its rest unchanged; unchanged after a refusal
 unfoldable pub geometryListOf : Mosfet1 → List ℕ → List ℕ → List ℕ → List Float → List ℕ → List ℕ
 geometryListOf d bytes offsets lengths values list =
-    unless (geometryRows d bytes offsets lengths values (length list)) (λ _. list) (sets list 0 (unknownFrom Table.Geometry 0 (entriesOf bytes offsets lengths values)))
+    listAfter (geometryRows d bytes offsets lengths values (length list)) Table.Geometry (entriesOf bytes offsets lengths values) list

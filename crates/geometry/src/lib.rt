@@ -24,6 +24,7 @@ use device::Geometry;
 use device::Given;
 use device::Mosfet1;
 use device::Stage;
+use entries::KeysAnswer;
 use keys::Key;
 use keys::Meaning;
 use keys::Table;
@@ -68,30 +69,6 @@ fn set_size(s: Sizes, key: Key, v: f64) -> Sizes
 {
     let mut t = s;
     match key {
-        Key::Vto => t,
-        Key::Kp => t,
-        Key::Uo => t,
-        Key::Is => t,
-        Key::Js => t,
-        Key::Lambda => t,
-        Key::Gamma => t,
-        Key::Phi => t,
-        Key::Rd => t,
-        Key::Rs => t,
-        Key::Rsh => t,
-        Key::Kf => t,
-        Key::Af => t,
-        Key::Cgso => t,
-        Key::Cgdo => t,
-        Key::Cgbo => t,
-        Key::Cox => t,
-        Key::Tox => t,
-        Key::Cj => t,
-        Key::Cjsw => t,
-        Key::Pb => t,
-        Key::Mj => t,
-        Key::Mjsw => t,
-        Key::Fc => t,
         Key::W => {
             t.w = v;
             t
@@ -124,6 +101,7 @@ fn set_size(s: Sizes, key: Key, v: f64) -> Sizes
             t.pd = v;
             t
         }
+        _ => t,
     }
 }
 
@@ -284,29 +262,28 @@ pub fn set_instance_params(
     ensures { λ r. ⌜ (r ≡ geometryOf device (now (bytes .entry)) (now (offsets .entry)) (now (lengths .entry)) (now (values .entry)) (length (now (unknown .entry))))
         × (now (unknown .exit) ≡ geometryListOf device (now (bytes .entry)) (now (offsets .entry)) (now (lengths .entry)) (now (values .entry)) (now (unknown .entry))) ⌝ }
 {
-    if entries::bad_pairs(bytes, offsets, lengths, values) {
-        return GeometryAnswer::Refused(1);
+    let tested = entries::test_keys(
+        Table::Geometry,
+        bytes,
+        offsets,
+        lengths,
+        values,
+        unknown.len(),
+    );
+    match tested {
+        KeysAnswer::Refused(row) => GeometryAnswer::Refused(row),
+        KeysAnswer::Passed(count, _) => {
+            let start = fresh_sizes(device.geometry.nrd, device.geometry.nrs);
+            let s = read_sizes(start, bytes, offsets, lengths, values);
+            if oxide_missing(device.card.kf, s.w, s.l, device.card.cox) {
+                return GeometryAnswer::Refused(5);
+            }
+            let stage = device.stage;
+            if device::before(Stage::Scaled, stage) {
+                return GeometryAnswer::Refused(10);
+            }
+            entries::list_unknown(Table::Geometry, bytes, offsets, lengths, values, unknown);
+            GeometryAnswer::Done(sized(device, s), count)
+        }
     }
-    let scan = entries::scan_keys(Table::Geometry, bytes, offsets, lengths, values);
-    let count = scan.unknown;
-    if scan.beyond_ascii {
-        return GeometryAnswer::Refused(2);
-    }
-    if unknown.len() < count {
-        return GeometryAnswer::Refused(3);
-    }
-    if scan.outside {
-        return GeometryAnswer::Refused(4);
-    }
-    let start = fresh_sizes(device.geometry.nrd, device.geometry.nrs);
-    let s = read_sizes(start, bytes, offsets, lengths, values);
-    if oxide_missing(device.card.kf, s.w, s.l, device.card.cox) {
-        return GeometryAnswer::Refused(5);
-    }
-    let stage = device.stage;
-    if device::before(Stage::Scaled, stage) {
-        return GeometryAnswer::Refused(10);
-    }
-    entries::list_unknown(Table::Geometry, bytes, offsets, lengths, values, unknown);
-    GeometryAnswer::Done(sized(device, s), count)
 }

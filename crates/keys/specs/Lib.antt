@@ -1,4 +1,3 @@
 pub mod Names
-pub mod Packing
 pub mod Picks
 pub mod Ranges

@@ -26,7 +26,7 @@ either-requires-3 : tie.Need-either-requires-3
 either-requires-3 c κs = search needs
 
 returns : tie.Need-returns
-returns c = cc
+returns c = let t = c .before in let o = t .before .before in rw (c .either3 .ensures, t .tnom-outside .ensures, t .before .either2 .ensures, o .outside .ensures, o .before .one-more-if .ensures, o .before .before .is-unknown .ensures, o .before .before .before .either .ensures)
 
 pub scanned-with-spec : {M : Type 1} → statement M
 scanned-with-spec =

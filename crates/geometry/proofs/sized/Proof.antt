@@ -11,7 +11,7 @@ geometry-stage-requires : tie.Need-geometry-stage-requires
 geometry-stage-requires c κs = search needs
 
 returns : tie.Need-returns
-returns c = cc
+returns c = rw (c .geometry-stage .ensures, c .before .before .before .before .before .before .geometry-record .ensures)
 
 pub sized-spec : {M : Type 1} → statement M
 sized-spec = tie.close (tie.spec geometry-record-requires geometry-stage-requires returns)

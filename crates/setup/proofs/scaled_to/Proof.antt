@@ -8,7 +8,7 @@ scaled-stage-requires : tie.Need-scaled-stage-requires
 scaled-stage-requires c κs = search needs
 
 returns : tie.Need-returns
-returns c = cc
+returns c = rw (c .scaled-stage .ensures)
 
 pub scaled-to-spec : {M : Type 1} → statement M
 scaled-to-spec = tie.close (tie.spec scaled-stage-requires returns)

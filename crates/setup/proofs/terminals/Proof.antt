@@ -11,7 +11,7 @@ inner-source-requires : tie.Need-inner-source-requires
 inner-source-requires c κs = search needs
 
 returns : tie.Need-returns
-returns c = cc
+returns c = rw (c .inner-source .ensures, c .before .inner-drain .ensures)
 
 pub terminals-spec : {M : Type 1} → statement M
 terminals-spec = tie.close (tie.spec inner-drain-requires inner-source-requires returns)

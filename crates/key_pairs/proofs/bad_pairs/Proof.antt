@@ -1,13 +1,13 @@
--- `entries::bad_pairs` meets its contract.
+-- `key_pairs::bad_pairs` meets its contract.
 -- Assumes nothing.
 use mathlib.Core.Path.{_∙_, ap}
 use mathlib.Core.Bool.{not}
 use borrow.Author.Tests.{eq-eqb, ne-eqb}
 use Rattle.device.proofs.Branches.{or-yes, or-no}
-use Rattle.entries.specs.Entries.{badPairs}
+use Rattle.key_pairs.specs.Pairs.{badPairs}
 use borrow.Author.Needs.{needs}
-use Rattle.entries.proofs.bad_pairs.Statement.{statement}
-use Rattle.entries.proofs.bad_pairs.Tie as tie
+use Rattle.key_pairs.proofs.bad_pairs.Statement.{statement}
+use Rattle.key_pairs.proofs.bad_pairs.Tie as tie
 
 returns : tie.Need-returns
 unfolding badPairs

@@ -1,10 +1,10 @@
--- `keys::lower` meets its contract.
+-- `key_names::lower` meets its contract.
 -- Assumes nothing.
 use borrow.Author.Tests.{le-leb, lt-leb}
 use Rattle.keys.specs.Names.{lowerOf}
 use borrow.Author.Needs.{needs}
-use Rattle.keys.proofs.lower.Statement.{statement}
-use Rattle.keys.proofs.lower.Tie as tie
+use Rattle.key_names.proofs.lower.Statement.{statement}
+use Rattle.key_names.proofs.lower.Tie as tie
 
 add-result : tie.Need-add-result
 add-result c = search needs

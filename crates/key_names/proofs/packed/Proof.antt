@@ -1,4 +1,4 @@
--- `keys::packed` meets its contract.
+-- `key_names::packed` meets its contract.
 -- Assumes nothing.
 use mathlib.Core.Path.{_≡_, _∙_, sym, ap, ap₂}
 use Prim.Native.Nat.{ℕ, _+_, _-_, _*_, _≤_, _<_, _^_}
@@ -6,10 +6,10 @@ use native.Mathlib.Omega.{arith}
 use borrow.Author.Needs.{needs}
 use lib.ListN.{length, drop}
 use lib.Seq.{drop-length}
-use Rattle.keys.specs.Packing.{packedOf}
-use Rattle.keys.proofs.Packing.{Bytes, lower-byte, digit-fits, packed-step}
-use Rattle.keys.proofs.packed.Statement.{statement}
-use Rattle.keys.proofs.packed.Tie as tie
+use Rattle.key_names.specs.Packing.{packedOf}
+use Rattle.key_names.proofs.Packing.{Bytes, lower-byte, digit-fits, packed-step}
+use Rattle.key_names.proofs.packed.Statement.{statement}
+use Rattle.key_names.proofs.packed.Tie as tie
 
 abbrev Inv-loop : tie.InvT-loop
 Inv-loop key number₀ i₀ number i = (i ≤ length key) × (number ≡ packedOf (drop i key))

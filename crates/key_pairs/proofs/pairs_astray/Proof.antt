@@ -1,4 +1,4 @@
--- `entries::pairs_astray` meets its contract.
+-- `key_pairs::pairs_astray` meets its contract.
 -- Assumes nothing.
 use mathlib.Core.Path.{_≡_, refl, _∙_, sym, ap}
 use mathlib.Core.List.{List}
@@ -10,10 +10,10 @@ use mathlib.Core.Bool.{_||_}
 use lib.Dec.{ltb}
 use lib.ListN.{length, getD, drop, drop-of-length-le}
 use Rattle.device.proofs.Branches.{or-yes, or-no}
-use Rattle.entries.specs.Entries.{pairsAstray}
-use Rattle.entries.proofs.Entries.{pairs-step, past-start, past-end, not-past}
-use Rattle.entries.proofs.pairs_astray.Statement.{statement}
-use Rattle.entries.proofs.pairs_astray.Tie as tie
+use Rattle.key_pairs.specs.Pairs.{pairsAstray}
+use Rattle.key_pairs.proofs.Pairs.{pairs-step, past-start, past-end, not-past}
+use Rattle.key_pairs.proofs.pairs_astray.Statement.{statement}
+use Rattle.key_pairs.proofs.pairs_astray.Tie as tie
 
 abbrev Inv-loop : tie.InvT-loop
 Inv-loop size offsets lengths last₀ i₀ last i = (i ≤ length offsets) × (pairsAstray size last (drop i offsets) (drop i lengths) ≡ pairsAstray size 0 offsets lengths)

@@ -12,12 +12,12 @@ use borrow.Author.Tests.{leb-true, leb-false, eqb-true, eq-eqb, ne-eqb, ltb-true
 use lib.Dec.{T, leb, ltb, eqb, ltb→lt, lit<}
 use lib.ListN.{length, getD, drop, length-drop}
 use lib.Seq.{drop-cons, getD-drop}
 use Rattle.keys.specs.Names.{Name, _means_, cardNames, geometryNames, namesOf, lowerOf, spells, named}
-use Rattle.keys.specs.Packing.{packedOf, numberOf, numbered}
+use Rattle.key_names.specs.Packing.{packedOf, numberOf, numbered}
 use Rattle.keys.specs.declared.Meaning.{Meaning}
 use Rattle.keys.specs.declared.Meaning.the-variants.{Unknown}
 use Rattle.keys.specs.declared.Table.{Table}
 use Rattle.keys.specs.declared.Table.the-variants.{Card, Geometry}
 
 -- ---- tests
 

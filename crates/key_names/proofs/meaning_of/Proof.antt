@@ -1,15 +1,15 @@
--- `keys::meaning_of` meets its contract.
+-- `key_names::meaning_of` meets its contract.
 -- Assumes nothing.
 use mathlib.Core.Path.{_∙_, sym, ap}
 use native.Mathlib.Omega.{arith}
 use Rattle.keys.specs.Names.{cardNames, geometryNames, namesOf, meaningOf}
-use Rattle.keys.specs.Packing.{numbered}
+use Rattle.key_names.specs.Packing.{numbered}
 use Rattle.keys.specs.declared.Table.{Table}
 use Rattle.keys.specs.declared.Table.the-variants.{Card, Geometry}
-use Rattle.keys.proofs.Packing.{Bytes, names-short, found-by-number, unknown-if-long}
+use Rattle.key_names.proofs.Packing.{Bytes, names-short, found-by-number, unknown-if-long}
 use borrow.Author.Needs.{needs}
-use Rattle.keys.proofs.meaning_of.Statement.{statement}
-use Rattle.keys.proofs.meaning_of.Tie as tie
+use Rattle.key_names.proofs.meaning_of.Statement.{statement}
+use Rattle.key_names.proofs.meaning_of.Tie as tie
 
 returns : tie.Need-returns
 unfolding meaningOf

@@ -1,12 +1,12 @@
--- `keys::geometry_key` meets its contract: each number of the code is that of its name, which antt computes, and any other is no name's.
+-- `key_names::geometry_key` meets its contract: each number of the code is that of its name, which antt computes, and any other is no name's.
 -- Assumes nothing.
 use mathlib.Core.Path.{_≡_, sym, ap}
 use Prim.Native.Nat.{ℕ}
 use Rattle.keys.specs.Names.{geometryNames}
-use Rattle.keys.specs.Packing.{numberOf, numbered}
-use Rattle.keys.proofs.Packing.{Rest, none-of}
-use Rattle.keys.proofs.geometry_key.Statement.{statement}
-use Rattle.keys.proofs.geometry_key.Tie as tie
+use Rattle.key_names.specs.Packing.{numberOf, numbered}
+use Rattle.key_names.proofs.Packing.{Rest, none-of}
+use Rattle.key_names.proofs.geometry_key.Statement.{statement}
+use Rattle.key_names.proofs.geometry_key.Tie as tie
 
 found : {p n : ℕ} → p ≡ n → numbered geometryNames n ≡ numbered geometryNames p
 found e = ap (numbered geometryNames) (sym e)
