@@ -49,6 +49,16 @@ fn beyond_ascii(key: &[u8]) -> bool
     false
 }
 
+// The key at a place.
+fn key_at<'a>(bytes: &'a [u8], offsets: &[usize], lengths: &[usize], i: usize) -> &'a [u8]
+    requires { ⌜ Inside (now bytes) (now offsets) (now lengths) i ⌝ }
+    ensures { λ r. ⌜ now r ≡ keyAt (now (bytes .entry)) (now (offsets .entry)) (now (lengths .entry)) i ⌝ }
+{
+    let at = offsets[i];
+    let end = at + lengths[i];
+    &bytes[at..end]
+}
+
 // What the key at a place means.
 pub fn meaning_at(
     table: Table,
@@ -60,19 +70,7 @@ pub fn meaning_at(
     requires { ⌜ Inside (now bytes) (now offsets) (now lengths) i ⌝ }
     ensures { λ r. ⌜ r ≡ meaningOf table (keyAt (now (bytes .entry)) (now (offsets .entry)) (now (lengths .entry)) i) ⌝ }
 {
-    let at = offsets[i];
-    let end = at + lengths[i];
-    key_names::meaning_of(table, &bytes[at..end])
-}
-
-// Whether the key at a place has a byte of 128 or more.
-fn beyond_ascii_at(bytes: &[u8], offsets: &[usize], lengths: &[usize], i: usize) -> bool
-    requires { ⌜ Inside (now bytes) (now offsets) (now lengths) i ⌝ }
-    ensures { λ r. ⌜ r ≡ beyondAscii (keyAt (now (bytes .entry)) (now (offsets .entry)) (now (lengths .entry)) i) ⌝ }
-{
-    let at = offsets[i];
-    let end = at + lengths[i];
-    beyond_ascii(&bytes[at..end])
+    key_names::meaning_of(table, key_at(bytes, offsets, lengths, i))
 }
 
 fn either(a: bool, b: bool) -> bool
@@ -122,8 +120,9 @@ fn scan_keys(
     let mut i = offsets.len();
     while 0 < i {
         i -= 1;
-        let high = beyond_ascii_at(bytes, offsets, lengths, i);
-        let m = meaning_at(table, bytes, offsets, lengths, i);
+        let key = key_at(bytes, offsets, lengths, i);
+        let high = beyond_ascii(key);
+        let m = key_names::meaning_of(table, key);
         s = scanned_with(s, high, m, values[i]);
     }
     s
