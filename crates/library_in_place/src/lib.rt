@@ -6,7 +6,9 @@ use record::DeviceRecord;
 use record_steps::ConditionsRecord;
 use record_steps::EvaluationReply;
 ghost use mathlib.Core.Path.{_≡_};
-ghost use Rattle.record_steps.specs.Steps.{evalCall, replyOf};
+ghost use Rattle.assembly.specs.Assembly.{Pattern};
+ghost use Rattle.record_loading.specs.Load.{loadCall, loadedSide, loadedMatrix};
+ghost use Rattle.record_steps.specs.Steps.{evalCall, replyOf, commitCall};
 
 // `mivtolgya_eval`. Only the parts that an evaluation changes are written.
 #[no_mangle]
@@ -25,4 +27,37 @@ pub extern "C" fn mivtolgya_eval_in_place(
     device.method = changes.method;
     device.stage = changes.stage;
     changes.reply
+}
+
+// `mivtolgya_load`. The record is only read.
+#[no_mangle]
+pub extern "C" fn mivtolgya_load_in_place(
+    device: &DeviceRecord,
+    transient: u64,
+    alpha: f64,
+    rhs: &mut [f64],
+    values: &mut [f64],
+    columns: &[u32],
+    offsets: &[usize],
+    lengths: &[usize],
+) -> u64
+    ensures { λ o. ⌜ (o ≡ loadCall (now (device .entry)) transient alpha (record { columns = now (columns .entry); offsets = now (offsets .entry); lengths = now (lengths .entry) }) (now (rhs .entry)) (now (values .entry)))
+        × ((now (rhs .exit) ≡ loadedSide (now (device .entry)) transient alpha (record { columns = now (columns .entry); offsets = now (offsets .entry); lengths = now (lengths .entry) }) (now (rhs .entry)) (now (values .entry)))
+        × (now (values .exit) ≡ loadedMatrix (now (device .entry)) transient alpha (record { columns = now (columns .entry); offsets = now (offsets .entry); lengths = now (lengths .entry) }) (now (rhs .entry)) (now (values .entry)))) ⌝ }
+{
+    let r = *device;
+    record_loading::load(r, transient, alpha, rhs, values, columns, offsets, lengths)
+}
+
+// `mivtolgya_commit_timestep`. Only the parts that a commit changes are written.
+#[no_mangle]
+pub extern "C" fn mivtolgya_commit_in_place(device: &mut DeviceRecord, x: &[f64]) -> u64
+    ensures { λ o. ⌜ (o ≡ commitCall (now (device .entry)) (now (x .entry)) .refusal)
+        × (now (device .exit) ≡ commitCall (now (device .entry)) (now (x .entry)) .device) ⌝ }
+{
+    let old = *device;
+    let changes = record_steps::commit(old, x);
+    device.point = changes.point;
+    device.histories = changes.histories;
+    changes.refusal
 }
