@@ -53,10 +53,12 @@ int main(void) {
     printf("binding: %u\n", (unsigned)mivtolgya_bind(&device, (mivtolgya_nodes){drain, gate, ground, ground}, 2));
 
     const double x[] = {1.0, 3.0};
-    mivtolgya_answer answer = {0};
     mivtolgya_conditions conditions = {300.15, 1e-12, 0, 1, {1, 1e-9, 0.0}};
-    printf("evaluation: %u\n", (unsigned)mivtolgya_evaluate(&device, x, 2, conditions, &answer));
-    printf("ids %a gm %a gds %a gmbs %a\n", answer.ids, answer.gm, answer.gds, answer.gmbs);
+    mivtolgya_evaluation_outcome by_value = mivtolgya_eval(device, x, 2, conditions);
+    mivtolgya_evaluation_reply reply = mivtolgya_eval_in_place(&device, x, 2, conditions);
+    printf("evaluation: %u\n", (unsigned)reply.refusal);
+    printf("ids %a gm %a gds %a gmbs %a\n", reply.answer.ids, reply.answer.gm, reply.answer.gds, reply.answer.gmbs);
+    printf("by value the same record: %d\n", memcmp(&by_value.device, &device, sizeof device) == 0);
 
     double rhs[2] = {0, 0}, values[4] = {0, 0, 0, 0};
     const uint32_t columns[] = {0, 1, 0, 1}, holed[] = {0, 0, 1};
@@ -65,10 +67,10 @@ int main(void) {
            (unsigned)mivtolgya_load(device, 1, 0.0, rhs, 2, values, 3, holed, 3, holed_offsets, 2, holed_lengths, 2));
     print_system(rhs, values);
     printf("load: %u\n",
-           (unsigned)mivtolgya_load(device, 1, 0.0, rhs, 2, values, 4, columns, 4, row_offsets, 2, row_lengths, 2));
+           (unsigned)mivtolgya_load_in_place(&device, 1, 0.0, rhs, 2, values, 4, columns, 4, row_offsets, 2, row_lengths, 2));
     print_system(rhs, values);
 
-    printf("commit: %u\n", (unsigned)mivtolgya_commit(&device, x, 2));
+    printf("commit: %u\n", (unsigned)mivtolgya_commit_in_place(&device, x, 2));
     printf("gate-source charge %a\n", device.histories.gs_hist.q_prev);
     mivtolgya_noise_outcome noise = mivtolgya_noise_sources(device, 300.15, 1e3);
     printf("noise: %u, source %u, density %a\n", (unsigned)noise.refusal, (unsigned)noise.tag, noise.density);

@@ -4,6 +4,10 @@
  * with the number of the refusal: 0 where the call is accepted, 1 to 13 by the table of refusals, 100 where a tag in what was
  * handed in is unknown. After a refusal the record answered is the one handed in and nothing lent was written.
  *
+ * Evaluation, load and commit stand here also for a record where it lies (`_in_place`): the same answers and the same record
+ * afterwards, but only what changes is written and nothing is copied. A loop should call these. The pointer to the record is
+ * aligned and not null, and nothing else that is lent overlaps the record.
+ *
  * Every field has eight bytes, so records have no padding: they can be copied and compared byte by byte. Memory of zeros is no
  * device; only a card makes one. A lent slice is a pointer and a length. The pointer is aligned and not null, also where the
  * length is 0, and a slice that is written overlaps no other. */
@@ -223,6 +227,12 @@ typedef struct {
     mivtolgya_device device;
 } mivtolgya_evaluation_outcome;
 
+/* What an evaluation answers that changes the record where it lies, and the number of the refusal. A refused one answers zeros. */
+typedef struct {
+    uint64_t refusal;
+    mivtolgya_answer answer;
+} mivtolgya_evaluation_reply;
+
 /* A noise source: tag 0 none, tag 1 from drain to source with its density; and the number of the refusal. */
 typedef struct {
     uint64_t refusal;
@@ -332,7 +342,36 @@ mivtolgya_noise_outcome mivtolgya_noise_sources(
 mivtolgya_reactances_outcome mivtolgya_small_signal_reactances(
     mivtolgya_device device);
 
-/* In place: the record is replaced by what the call answers, and the number of the refusal is returned. */
+/* `mivtolgya_eval` of the record where it lies. */
+mivtolgya_evaluation_reply mivtolgya_eval_in_place(
+    mivtolgya_device *device,
+    const double *x,
+    size_t x_count,
+    mivtolgya_conditions conditions);
+
+/* `mivtolgya_load` of the record where it lies, which is only read. */
+uint64_t mivtolgya_load_in_place(
+    const mivtolgya_device *device,
+    uint64_t transient,
+    double alpha,
+    double *rhs,
+    size_t rhs_count,
+    double *values,
+    size_t value_count,
+    const uint32_t *columns,
+    size_t column_count,
+    const size_t *offsets,
+    size_t offset_count,
+    const size_t *lengths,
+    size_t length_count);
+
+/* `mivtolgya_commit_timestep` of the record where it lies. Answers the number of the refusal. */
+uint64_t mivtolgya_commit_in_place(
+    mivtolgya_device *device,
+    const double *x,
+    size_t x_count);
+
+/* The record is replaced by what the call answers, and the number of the refusal is returned. */
 static inline uint64_t mivtolgya_scale(mivtolgya_device *device, double temperature) {
     mivtolgya_device_outcome o = mivtolgya_setup_model(*device, temperature);
     *device = o.device;
@@ -341,20 +380,6 @@ static inline uint64_t mivtolgya_scale(mivtolgya_device *device, double temperat
 
 static inline uint64_t mivtolgya_bind(mivtolgya_device *device, mivtolgya_nodes nodes, size_t first) {
     mivtolgya_device_outcome o = mivtolgya_setup_instance(*device, nodes, first);
-    *device = o.device;
-    return o.refusal;
-}
-
-static inline uint64_t mivtolgya_evaluate(mivtolgya_device *device, const double *x, size_t x_count,
-                                          mivtolgya_conditions conditions, mivtolgya_answer *answer) {
-    mivtolgya_evaluation_outcome o = mivtolgya_eval(*device, x, x_count, conditions);
-    *device = o.device;
-    if (o.refusal == 0) *answer = o.answer;
-    return o.refusal;
-}
-
-static inline uint64_t mivtolgya_commit(mivtolgya_device *device, const double *x, size_t x_count) {
-    mivtolgya_device_outcome o = mivtolgya_commit_timestep(*device, x, x_count);
     *device = o.device;
     return o.refusal;
 }

@@ -56,9 +56,11 @@ def prototypes():
         kinds = []
         for parameter in filter(None, (p.strip() for p in parameters.replace("\n", " ").split(","))):
             kind = parameter.split(": ")[1]
-            lent = re.match(r"&(mut )?\[(\w+)\]", kind)
+            lent = re.match(r"&(mut )?(\[?)(\w+)", kind)
             if lent:
-                kinds += [("" if lent[1] else "const ") + c_type(lent[2]) + " *", "size_t"]
+                kinds.append(("" if lent[1] else "const ") + c_type(lent[3]) + " *")
+                if lent[2]:
+                    kinds.append("size_t")
             else:
                 kinds.append(c_type(kind))
         yield f"{c_type(result)} (*is_{name})({', '.join(kinds)}) = {name};"

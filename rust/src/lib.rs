@@ -7,7 +7,7 @@ mod record;
 
 pub use record::{AnswerRecord, CardRecord, ChargesRecord, DeviceRecord, GeometryRecord, GivenRecord, HistoriesRecord};
 pub use record::{HistoryRecord, MethodRecord, NodeRecord, PointRecord, ScaledRecord, TerminalsRecord};
-use record::{ConditionsRecord, CountOutcome, DeviceOutcome, EvaluationOutcome, KeysOutcome, NodesRecord};
+use record::{ConditionsRecord, CountOutcome, DeviceOutcome, EvaluationReply, KeysOutcome, NodesRecord};
 use record::{NoiseOutcome, ReactanceRecord, ReactancesOutcome};
 
 // A slice is handed over as a pointer and a length; a slice's pointer is never null, also where it is empty.
@@ -42,14 +42,14 @@ extern "C" {
     fn mivtolgya_setup_model(device: DeviceRecord, temperature: f64) -> DeviceOutcome;
     fn mivtolgya_num_extra_nodes(device: DeviceRecord) -> CountOutcome;
     fn mivtolgya_setup_instance(device: DeviceRecord, nodes: NodesRecord, first: usize) -> DeviceOutcome;
-    fn mivtolgya_eval(
-        device: DeviceRecord,
+    fn mivtolgya_eval_in_place(
+        device: &mut DeviceRecord,
         x: *const f64,
         x_count: usize,
         conditions: ConditionsRecord,
-    ) -> EvaluationOutcome;
-    fn mivtolgya_load(
-        device: DeviceRecord,
+    ) -> EvaluationReply;
+    fn mivtolgya_load_in_place(
+        device: &DeviceRecord,
         transient: u64,
         alpha: f64,
         rhs: *mut f64,
@@ -63,7 +63,7 @@ extern "C" {
         lengths: *const usize,
         length_count: usize,
     ) -> u64;
-    fn mivtolgya_commit_timestep(device: DeviceRecord, x: *const f64, x_count: usize) -> DeviceOutcome;
+    fn mivtolgya_commit_in_place(device: &mut DeviceRecord, x: *const f64, x_count: usize) -> u64;
     fn mivtolgya_noise_sources(device: DeviceRecord, temperature: f64, freq: f64) -> NoiseOutcome;
     fn mivtolgya_small_signal_reactances(device: DeviceRecord) -> ReactancesOutcome;
 }
@@ -281,11 +281,10 @@ impl Device {
             transient: conditions.transient as u64,
             method: conditions.method.record(),
         };
-        // SAFETY: the pointer and length are a live slice's.
-        let o = unsafe { mivtolgya_eval(self.record, x.as_ptr(), x.len(), record) };
-        self.record = o.device;
-        accepted(o.refusal)?;
-        Ok(o.answer)
+        // SAFETY: the pointer and length are a live slice's; the record is borrowed mutably, so it overlaps none.
+        let reply = unsafe { mivtolgya_eval_in_place(&mut self.record, x.as_ptr(), x.len(), record) };
+        accepted(reply.refusal)?;
+        Ok(reply.answer)
     }
 
     /// Adds the device to the right-hand side and the matrix.
@@ -296,8 +295,8 @@ impl Device {
         };
         // SAFETY: each pointer and length is a live slice's; both that are written are borrowed mutably, so they overlap none.
         accepted(unsafe {
-            mivtolgya_load(
-                self.record,
+            mivtolgya_load_in_place(
+                &self.record,
                 transient,
                 alpha,
                 rhs.as_mut_ptr(),
@@ -316,10 +315,8 @@ impl Device {
 
     /// Commits the step at the node voltages `x`.
     pub fn commit_timestep(&mut self, x: &[f64]) -> Result<(), Refusal> {
-        // SAFETY: the pointer and length are a live slice's.
-        let o = unsafe { mivtolgya_commit_timestep(self.record, x.as_ptr(), x.len()) };
-        self.record = o.device;
-        accepted(o.refusal)
+        // SAFETY: as for an evaluation.
+        accepted(unsafe { mivtolgya_commit_in_place(&mut self.record, x.as_ptr(), x.len()) })
     }
 
     /// The noise source at a temperature in kelvin and a frequency, if there is one.

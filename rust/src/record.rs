@@ -237,12 +237,21 @@ pub struct AnswerRecord {
 }
 
 /// The device after an evaluation, what it answers, and the number of the refusal. A refused one answers zeros and the device handed in.
+#[allow(dead_code)]
 #[repr(C)]
 #[derive(Clone, Copy, Debug)]
 pub struct EvaluationOutcome {
     pub refusal: u64,
     pub answer: AnswerRecord,
     pub device: DeviceRecord,
+}
+
+/// What an evaluation answers that changes the record where it lies.
+#[repr(C)]
+#[derive(Clone, Copy, Debug)]
+pub struct EvaluationReply {
+    pub refusal: u64,
+    pub answer: AnswerRecord,
 }
 
 /// A noise source: tag 0 none, tag 1 from drain to source with its density; and the number of the refusal.

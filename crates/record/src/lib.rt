@@ -215,7 +215,7 @@ fn given_record(given: Given) -> GivenRecord
     }
 }
 
-fn method_record(method: Discretisation) -> MethodRecord
+pub fn method_record(method: Discretisation) -> MethodRecord
     ensures { λ r. ⌜ r ≡ methodRecord method ⌝ }
 {
     match method {
@@ -238,7 +238,7 @@ fn method_record(method: Discretisation) -> MethodRecord
     }
 }
 
-fn stage_tag(stage: Stage) -> u64
+pub fn stage_tag(stage: Stage) -> u64
     ensures { λ r. ⌜ r ≡ stageTag stage ⌝ }
 {
     match stage {
@@ -344,7 +344,7 @@ fn terminals_record(t: Terminals) -> TerminalsRecord
     }
 }
 
-fn point_record(p: OperatingPoint) -> PointRecord
+pub fn point_record(p: OperatingPoint) -> PointRecord
     ensures { λ r. ⌜ r ≡ pointRecord p ⌝ }
 {
     PointRecord {
@@ -362,7 +362,7 @@ fn point_record(p: OperatingPoint) -> PointRecord
     }
 }
 
-fn charges_record(q: Charges) -> ChargesRecord
+pub fn charges_record(q: Charges) -> ChargesRecord
     ensures { λ r. ⌜ r ≡ chargesRecord q ⌝ }
 {
     ChargesRecord {
@@ -392,7 +392,7 @@ fn history_record(h: ChargeHistory) -> HistoryRecord
     }
 }
 
-fn histories_record(h: Histories) -> HistoriesRecord
+pub fn histories_record(h: Histories) -> HistoriesRecord
     ensures { λ r. ⌜ r ≡ historiesRecord h ⌝ }
 {
     HistoriesRecord {

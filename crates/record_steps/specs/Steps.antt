@@ -1,4 +1,5 @@
 -- Evaluation and commit of a device that is a record: a record with an unknown tag is refused under 100, any other as its device is.
+-- What a call does not change stays in the record as it was handed in, unused fields too.
 use Prim.Native.Nat.{ℕ}
 use mathlib.Core.Bool.{Bool, cond, _&&_}
 use mathlib.Core.List.{List}
@@ -13,7 +14,8 @@ use Rattle.model.specs.declared.calls.Evaluation.{Evaluation}
 use Rattle.model.specs.declared.calls.Evaluation.the-variants as Evaluation
 use Rattle.model.specs.declared.calls.Commit.{Commit}
 use Rattle.model.specs.declared.calls.Commit.the-variants as Commit
-use Rattle.record.specs.Records.{deviceRecord}
+use Rattle.device.specs.declared.Mosfet1.{Mosfet1}
+use Rattle.record.specs.Records.{pointRecord, chargesRecord, historiesRecord, methodRecord, stageTag}
 use Rattle.record.specs.declared.DeviceOutcome.{DeviceOutcome}
 use Rattle.record.specs.declared.DeviceRecord.{DeviceRecord}
 use Rattle.from_record.specs.Devices.{deviceFrom, methodFrom}
@@ -21,6 +23,9 @@ use Rattle.from_record.specs.Tags.{goodTags}
 use Rattle.record_steps.specs.declared.AnswerRecord.{AnswerRecord}
 use Rattle.record_steps.specs.declared.ConditionsRecord.{ConditionsRecord}
 use Rattle.record_steps.specs.declared.EvaluationOutcome.{EvaluationOutcome}
+use Rattle.record_steps.specs.declared.EvaluationReply.{EvaluationReply}
+use Rattle.record_steps.specs.declared.EvaluationChanges.{EvaluationChanges}
+use Rattle.record_steps.specs.declared.CommitChanges.{CommitChanges}
 
 unfoldable pub goodConditions : ConditionsRecord → Bool
 goodConditions k = leb (k .limiter) 1 && leb (k .transient) 1 && leb (k .method .tag) 3
@@ -47,11 +52,26 @@ refusedEvaluation r n =
       device = r;
     }
 
-unfoldable pub evaluatedOutcome : Evaluated → EvaluationOutcome
-evaluatedOutcome e = record { refusal = 0; answer = answerRecord (e .answer); device = deviceRecord (e .device) }
+-- the record after an evaluation that leaves the device d
+unfoldable pub evaluatedRecord : DeviceRecord → Mosfet1 → DeviceRecord
+evaluatedRecord r d =
+    record {
+      card = r .card;
+      geometry = r .geometry;
+      scaled = r .scaled;
+      terminals = r .terminals;
+      point = pointRecord (d .point);
+      charges = chargesRecord (d .charges);
+      histories = r .histories;
+      method = methodRecord (d .disc);
+      stage = stageTag (d .stage);
+    }
+
+unfoldable pub evaluatedOutcome : DeviceRecord → Evaluated → EvaluationOutcome
+evaluatedOutcome r e = record { refusal = 0; answer = answerRecord (e .answer); device = evaluatedRecord r (e .device) }
 
 unfoldable pub evaluationOutcome : DeviceRecord → Evaluation → EvaluationOutcome
-evaluationOutcome r (Evaluation.Done e) = evaluatedOutcome e
+evaluationOutcome r (Evaluation.Done e) = evaluatedOutcome r e
 evaluationOutcome r (Evaluation.Refused n) = refusedEvaluation r n
 
 -- x is the lent list of node voltages
@@ -61,9 +81,81 @@ evalCall r x k =
     (cond (goodConditions k) (evaluationOutcome r (evalOf (deviceFrom r) x (eqb (k .transient) 1) (conditionsFrom k))) (refusedEvaluation r 100))
     (refusedEvaluation r 100)
 
+-- what a call answers that changes the record where it lies
+unfoldable pub replyOf : EvaluationOutcome → EvaluationReply
+replyOf o = record { refusal = o .refusal; answer = o .answer }
+
+-- the reply, and the parts of the record that an evaluation may change
+unfoldable pub changesOf : EvaluationOutcome → EvaluationChanges
+changesOf o =
+    record {
+      reply = replyOf o;
+      point = o .device .point;
+      charges = o .device .charges;
+      method = o .device .method;
+      stage = o .device .stage;
+    }
+
+unfoldable pub changedRecord : DeviceRecord → EvaluationChanges → DeviceRecord
+changedRecord r c =
+    record {
+      card = r .card;
+      geometry = r .geometry;
+      scaled = r .scaled;
+      terminals = r .terminals;
+      point = c .point;
+      charges = c .charges;
+      histories = r .histories;
+      method = c .method;
+      stage = c .stage;
+    }
+
+-- the record after a commit that leaves the device d
+unfoldable pub committedRecord : DeviceRecord → Mosfet1 → DeviceRecord
+committedRecord r d =
+    record {
+      card = r .card;
+      geometry = r .geometry;
+      scaled = r .scaled;
+      terminals = r .terminals;
+      point = pointRecord (d .point);
+      charges = r .charges;
+      histories = historiesRecord (d .histories);
+      method = r .method;
+      stage = r .stage;
+    }
+
 unfoldable pub commitOutcome : DeviceRecord → Commit → DeviceOutcome
-commitOutcome r (Commit.Done e) = record { refusal = 0; device = deviceRecord e }
+commitOutcome r (Commit.Done e) = record { refusal = 0; device = committedRecord r e }
 commitOutcome r (Commit.Refused n) = record { refusal = n; device = r }
 
 unfoldable pub commitCall : DeviceRecord → List Float → DeviceOutcome
 commitCall r x = cond (goodTags r) (commitOutcome r (commitOf (deviceFrom r) x)) (record { refusal = 100; device = r })
+
+-- the number of the refusal, and the parts of the record that a commit may change
+unfoldable pub commitChangesOf : DeviceOutcome → CommitChanges
+commitChangesOf o = record { refusal = o .refusal; point = o .device .point; histories = o .device .histories }
+
+unfoldable pub advancedRecord : DeviceRecord → CommitChanges → DeviceRecord
+advancedRecord r c =
+    record {
+      card = r .card;
+      geometry = r .geometry;
+      scaled = r .scaled;
+      terminals = r .terminals;
+      point = c .point;
+      charges = r .charges;
+      histories = c .histories;
+      method = r .method;
+      stage = r .stage;
+    }
+
+-- ---- the model's device after a call: the one handed in where it is refused
+
+unfoldable pub afterEvaluation : Mosfet1 → Evaluation → Mosfet1
+afterEvaluation d (Evaluation.Done e) = e .device
+afterEvaluation d (Evaluation.Refused n) = d
+
+unfoldable pub afterCommit : Mosfet1 → Commit → Mosfet1
+afterCommit d (Commit.Done e) = e
+afterCommit d (Commit.Refused n) = d

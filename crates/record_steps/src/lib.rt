@@ -4,12 +4,16 @@ use model::calls::Commit;
 use model::calls::Evaluation;
 use mosfet1::steps::Conditions;
 use mosfet1::steps::Evaluated;
+use record::ChargesRecord;
 use record::DeviceOutcome;
 use record::DeviceRecord;
+use record::HistoriesRecord;
 use record::MethodRecord;
+use record::PointRecord;
 use temperature::Kelvin;
 ghost use mathlib.Core.Path.{_≡_};
-ghost use Rattle.record_steps.specs.Steps.{goodConditions, conditionsFrom, answerRecord, refusedEvaluation, evaluatedOutcome, evaluationOutcome, evalCall, commitOutcome, commitCall};
+ghost use Rattle.record_steps.specs.Steps.{goodConditions, conditionsFrom, answerRecord, refusedEvaluation, evaluatedOutcome, evaluationOutcome, evalCall, changesOf, changedRecord, commitOutcome, commitCall, commitChangesOf, advancedRecord};
+ghost use Rattle.record.specs.declared.DeviceRecord.{DeviceRecord};
 
 // What an evaluation is handed besides the voltages. The limiter and the transient flag are 0 or 1.
 #[repr(C)]
@@ -39,6 +43,29 @@ pub struct EvaluationOutcome {
     pub refusal: u64,
     pub answer: AnswerRecord,
     pub device: DeviceRecord,
+}
+
+// What an evaluation answers that changes the record where it lies.
+#[repr(C)]
+pub struct EvaluationReply {
+    pub refusal: u64,
+    pub answer: AnswerRecord,
+}
+
+// The reply, and the parts of the record that an evaluation may change.
+pub struct EvaluationChanges {
+    pub reply: EvaluationReply,
+    pub point: PointRecord,
+    pub charges: ChargesRecord,
+    pub method: MethodRecord,
+    pub stage: u64,
+}
+
+// The number of the refusal, and the parts of the record that a commit may change.
+pub struct CommitChanges {
+    pub refusal: u64,
+    pub point: PointRecord,
+    pub histories: HistoriesRecord,
 }
 
 fn good_conditions(k: ConditionsRecord) -> bool
@@ -80,48 +107,66 @@ fn answer_record(a: Answer) -> AnswerRecord
     }
 }
 
-fn refused_evaluation(r: DeviceRecord, n: u64) -> EvaluationOutcome
-    ensures { λ o. ⌜ o ≡ refusedEvaluation r n ⌝ }
+fn refused_evaluation(r: DeviceRecord, n: u64) -> EvaluationChanges
+    ensures { λ c. ⌜ c ≡ changesOf (refusedEvaluation r n) ⌝ }
 {
-    EvaluationOutcome {
-        refusal: n,
-        answer: AnswerRecord {
-            vgs: 0.0,
-            vds: 0.0,
-            vth: 0.0,
-            ids: 0.0,
-            gm: 0.0,
-            gds: 0.0,
-            gmbs: 0.0,
+    let point = r.point;
+    let charges = r.charges;
+    let method = r.method;
+    EvaluationChanges {
+        reply: EvaluationReply {
+            refusal: n,
+            answer: AnswerRecord {
+                vgs: 0.0,
+                vds: 0.0,
+                vth: 0.0,
+                ids: 0.0,
+                gm: 0.0,
+                gds: 0.0,
+                gmbs: 0.0,
+            },
         },
-        device: r,
+        point,
+        charges,
+        method,
+        stage: r.stage,
     }
 }
 
-fn evaluated_outcome(e: Evaluated) -> EvaluationOutcome
-    ensures { λ o. ⌜ o ≡ evaluatedOutcome e ⌝ }
+// What changes is the same for every record that stands for the device.
+fn accepted_evaluation(e: Evaluated) -> EvaluationChanges
+    ensures { λ c. ⌜ ((r : DeviceRecord) → c ≡ changesOf (evaluatedOutcome r e)) ⌝ }
 {
     let a = e.answer;
     let d = e.device;
-    EvaluationOutcome {
-        refusal: 0,
-        answer: answer_record(a),
-        device: record::device_record(d),
+    let point = d.point;
+    let charges = d.charges;
+    let disc = d.disc;
+    let stage = d.stage;
+    EvaluationChanges {
+        reply: EvaluationReply {
+            refusal: 0,
+            answer: answer_record(a),
+        },
+        point: record::point_record(point),
+        charges: record::charges_record(charges),
+        method: record::method_record(disc),
+        stage: record::stage_tag(stage),
     }
 }
 
-fn evaluation_outcome(r: DeviceRecord, a: Evaluation) -> EvaluationOutcome
-    ensures { λ o. ⌜ o ≡ evaluationOutcome r a ⌝ }
+fn evaluation_changes(r: DeviceRecord, a: Evaluation) -> EvaluationChanges
+    ensures { λ c. ⌜ c ≡ changesOf (evaluationOutcome r a) ⌝ }
 {
     match a {
-        Evaluation::Done(e) => evaluated_outcome(e),
+        Evaluation::Done(e) => accepted_evaluation(e),
         Evaluation::Refused(n) => refused_evaluation(r, record::wide(n)),
     }
 }
 
-// `eval` of the device that the record stands for.
-pub fn eval(r: DeviceRecord, x: &[f64], k: ConditionsRecord) -> EvaluationOutcome
-    ensures { λ o. ⌜ o ≡ evalCall r (now (x .entry)) k ⌝ }
+// `eval` of the device that the record stands for: the answer, and what of the record changes.
+pub fn evaluate(r: DeviceRecord, x: &[f64], k: ConditionsRecord) -> EvaluationChanges
+    ensures { λ c. ⌜ c ≡ changesOf (evalCall r (now (x .entry)) k) ⌝ }
 {
     if !from_record::good_tags(r) {
         return refused_evaluation(r, 100);
@@ -133,35 +178,119 @@ pub fn eval(r: DeviceRecord, x: &[f64], k: ConditionsRecord) -> EvaluationOutcom
     let conditions = conditions_from(k);
     let transient = k.transient == 1;
     let a = model::calls::eval(d, x, transient, conditions);
-    evaluation_outcome(r, a)
+    evaluation_changes(r, a)
 }
 
-fn commit_outcome(r: DeviceRecord, a: Commit) -> DeviceOutcome
-    ensures { λ o. ⌜ o ≡ commitOutcome r a ⌝ }
+fn changed_record(r: DeviceRecord, c: EvaluationChanges) -> DeviceRecord
+    ensures { λ o. ⌜ o ≡ changedRecord r c ⌝ }
 {
-    match a {
-        Commit::Done(e) => DeviceOutcome {
-            refusal: 0,
-            device: record::device_record(e),
-        },
-        Commit::Refused(n) => DeviceOutcome {
-            refusal: record::wide(n),
-            device: r,
-        },
+    let card = r.card;
+    let geometry = r.geometry;
+    let scaled = r.scaled;
+    let terminals = r.terminals;
+    let histories = r.histories;
+    let point = c.point;
+    let charges = c.charges;
+    let method = c.method;
+    DeviceRecord {
+        card,
+        geometry,
+        scaled,
+        terminals,
+        point,
+        charges,
+        histories,
+        method,
+        stage: c.stage,
     }
 }
 
-// `commit_timestep` of the device that the record stands for.
-pub fn commit_timestep(r: DeviceRecord, x: &[f64]) -> DeviceOutcome
-    ensures { λ o. ⌜ o ≡ commitCall r (now (x .entry)) ⌝ }
+// The same with the whole record by value.
+pub fn eval(r: DeviceRecord, x: &[f64], k: ConditionsRecord) -> EvaluationOutcome
+    ensures { λ o. ⌜ o ≡ evalCall r (now (x .entry)) k ⌝ }
+{
+    let c = evaluate(r, x, k);
+    let reply = c.reply;
+    let answer = reply.answer;
+    EvaluationOutcome {
+        refusal: reply.refusal,
+        answer,
+        device: changed_record(r, c),
+    }
+}
+
+fn refused_commit(r: DeviceRecord, n: u64) -> CommitChanges
+    ensures { λ c. ⌜ c ≡ commitChangesOf (record { refusal = n; device = r }) ⌝ }
+{
+    let point = r.point;
+    let histories = r.histories;
+    CommitChanges {
+        refusal: n,
+        point,
+        histories,
+    }
+}
+
+fn commit_changes(r: DeviceRecord, a: Commit) -> CommitChanges
+    ensures { λ c. ⌜ c ≡ commitChangesOf (commitOutcome r a) ⌝ }
+{
+    match a {
+        Commit::Done(e) => {
+            let point = e.point;
+            let histories = e.histories;
+            CommitChanges {
+                refusal: 0,
+                point: record::point_record(point),
+                histories: record::histories_record(histories),
+            }
+        }
+        Commit::Refused(n) => refused_commit(r, record::wide(n)),
+    }
+}
+
+// `commit_timestep` of the device that the record stands for: what of the record changes.
+pub fn commit(r: DeviceRecord, x: &[f64]) -> CommitChanges
+    ensures { λ c. ⌜ c ≡ commitChangesOf (commitCall r (now (x .entry))) ⌝ }
 {
     if !from_record::good_tags(r) {
-        return DeviceOutcome {
-            refusal: 100,
-            device: r,
-        };
+        return refused_commit(r, 100);
     }
     let d = from_record::device_from(r);
     let a = model::calls::commit_timestep(d, x);
-    commit_outcome(r, a)
+    commit_changes(r, a)
+}
+
+fn advanced_record(r: DeviceRecord, c: CommitChanges) -> DeviceRecord
+    ensures { λ o. ⌜ o ≡ advancedRecord r c ⌝ }
+{
+    let card = r.card;
+    let geometry = r.geometry;
+    let scaled = r.scaled;
+    let terminals = r.terminals;
+    let charges = r.charges;
+    let method = r.method;
+    let point = c.point;
+    let histories = c.histories;
+    DeviceRecord {
+        card,
+        geometry,
+        scaled,
+        terminals,
+        point,
+        charges,
+        histories,
+        method,
+        stage: r.stage,
+    }
+}
+
+// The same with the whole record by value.
+pub fn commit_timestep(r: DeviceRecord, x: &[f64]) -> DeviceOutcome
+    ensures { λ o. ⌜ o ≡ commitCall r (now (x .entry)) ⌝ }
+{
+    let c = commit(r, x);
+    DeviceOutcome {
+        refusal: c.refusal,
+        device: advanced_record(r, c),
+    }
 }

@@ -1,46 +1,21 @@
 -- `record_steps::eval` meets its contract.
 -- Assumes nothing.
-use borrow.Author.Tests.{not-true, not-false}
-use Rattle.record_steps.specs.Steps.{evalCall}
+use mathlib.Core.Path.{sym, _∙_}
+use Rattle.record_steps.specs.Steps.{replyOf, changesOf}
+use Rattle.record_steps.proofs.Changes.{eval-from-changes}
 use borrow.Author.Needs.{needs}
 use Rattle.record_steps.proofs.eval.Statement.{statement}
 use Rattle.record_steps.proofs.eval.Tie as tie
 
-good-tags-requires : tie.Need-good-tags-requires
-good-tags-requires c κs = search needs
+evaluate-requires : tie.Need-evaluate-requires
+evaluate-requires c κs = search needs
 
-refused-evaluation-requires : tie.Need-refused-evaluation-requires
-refused-evaluation-requires c κs = search needs
+changed-record-requires : tie.Need-changed-record-requires
+changed-record-requires c κs = search needs
 
 returns : tie.Need-returns
-unfolding evalCall
-returns c = rw (c .refused-evaluation .ensures, ← c .before .before .good-tags .ensures, not-true (c .before .before .good-tags .result) (c .before .if1 .taken))
-
-good-conditions-requires : tie.Need-good-conditions-requires
-good-conditions-requires c κs = search needs
-
-refused-evaluation-requires-2 : tie.Need-refused-evaluation-requires-2
-refused-evaluation-requires-2 c κs = search needs
-
-returns-2 : tie.Need-returns-2
-unfolding evalCall
-returns-2 c = rw (c .refused-evaluation2 .ensures, ← c .before .before .before .before .good-tags .ensures, not-false (c .before .before .before .before .good-tags .result) (c .before .before .before .if1 .left), ← c .before .before .good-conditions .ensures, not-true (c .before .before .good-conditions .result) (c .before .if2 .taken))
-
-device-from-requires : tie.Need-device-from-requires
-device-from-requires c κs = search needs
-
-conditions-from-requires : tie.Need-conditions-from-requires
-conditions-from-requires c κs = search needs
-
-eval-requires : tie.Need-eval-requires
-eval-requires c κs = search needs
-
-evaluation-outcome-requires : tie.Need-evaluation-outcome-requires
-evaluation-outcome-requires c κs = search needs
-
-returns-3 : tie.Need-returns-3
-unfolding evalCall
-returns-3 c = rw (c .evaluation-outcome .ensures, c .before .eval .ensures, c .before .before .before .conditions-from .ensures, c .before .before .before .before .device-from .ensures, ← c .before .before .before .before .before .before .before .before .good-tags .ensures, not-false (c .before .before .before .before .before .before .before .before .good-tags .result) (c .before .before .before .before .before .before .before .if1 .left), ← c .before .before .before .before .before .before .good-conditions .ensures, not-false (c .before .before .before .before .before .before .good-conditions .result) (c .before .before .before .before .before .if2 .left))
+unfolding replyOf changesOf
+returns c = rw (c .changed-record .ensures, c .before .before .before .evaluate .ensures) (eval-from-changes _ _ _)
 
 pub eval-spec : {M : Type 1} → statement M
-eval-spec = tie.close (tie.spec good-tags-requires refused-evaluation-requires returns good-conditions-requires refused-evaluation-requires-2 returns-2 device-from-requires conditions-from-requires eval-requires evaluation-outcome-requires returns-3)
+eval-spec = tie.close (tie.spec evaluate-requires changed-record-requires returns)

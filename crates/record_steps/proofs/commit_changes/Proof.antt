@@ -1,0 +1,35 @@
+-- `record_steps::commit_changes` meets its contract.
+-- Assumes nothing.
+use Rattle.record_steps.specs.Steps.{committedRecord, commitOutcome, commitChangesOf}
+use borrow.Author.Needs.{needs}
+use Rattle.record_steps.proofs.commit_changes.Statement.{statement}
+use Rattle.record_steps.proofs.commit_changes.Tie as tie
+
+enum-known-a : tie.Need-enum-known-a
+enum-known-a c = search needs
+
+point-record-requires : tie.Need-point-record-requires
+point-record-requires c κs = search needs
+
+histories-record-requires : tie.Need-histories-record-requires
+histories-record-requires c κs = search needs
+
+enum-known-a-2 : tie.Need-enum-known-a-2
+enum-known-a-2 c = search needs
+
+wide-requires : tie.Need-wide-requires
+wide-requires c κs = search needs
+
+refused-commit-requires : tie.Need-refused-commit-requires
+refused-commit-requires c κs = search needs
+
+returns : tie.Need-returns
+unfolding committedRecord commitOutcome commitChangesOf
+returns c = rw (c .histories-record .ensures, c .before .point-record .ensures, c .before .before .before .before .before .a .given .1)
+
+returns-2 : tie.Need-returns-2
+unfolding commitOutcome
+returns-2 c = rw (c .refused-commit .ensures, c .before .wide .ensures, c .before .before .before .a2 .given .1)
+
+pub commit-changes-spec : {M : Type 1} → statement M
+commit-changes-spec = tie.close (tie.spec enum-known-a point-record-requires histories-record-requires enum-known-a-2 wide-requires refused-commit-requires returns returns-2)
