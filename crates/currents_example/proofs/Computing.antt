@@ -21,7 +21,8 @@ use Rattle.mosfet1.specs.Steps.{evaluatedAnswerOf, evaluatedPointOf, evaluatedC
 use Rattle.rows.specs.Rows.{nodeVoltageOf, voltagesOf, outsideOf, row6Of, beyondOf, row8Of, row9Of, unboundOf, unevaluatedOf, badStepOf, row11Of, evalRowOf, commitRowOf}
 use Rattle.model.specs.Calls.{evaluationOf, evalOf, commitAnswerOf, commitOf}
 use Rattle.keys.specs.Names.{cardNames, geometryNames, namesOf, lowerOf, spells, named, meaningOf}
-use Rattle.entries.specs.Entries.{entriesOf, pairsAstray, badPairs, beyondAscii, anyBeyondAscii, unknownFrom, unknownCount, anyOutside, anyTnomOutside}
+use Rattle.key_pairs.specs.Pairs.{pairsAstray, badPairs}
+use Rattle.entries.specs.Entries.{entriesOf, beyondAscii, anyBeyondAscii, unknownFrom, unknownCount, anyOutside, anyTnomOutside}
 
 -- floats
 unfoldable pub floats : Bool

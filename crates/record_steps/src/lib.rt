@@ -5,14 +5,13 @@ use model::calls::Evaluation;
 use mosfet1::steps::Conditions;
 use mosfet1::steps::Evaluated;
 use record::ChargesRecord;
-use record::DeviceOutcome;
 use record::DeviceRecord;
 use record::HistoriesRecord;
 use record::MethodRecord;
 use record::PointRecord;
 use temperature::Kelvin;
 ghost use mathlib.Core.Path.{_≡_};
-ghost use Rattle.record_steps.specs.Steps.{goodConditions, conditionsFrom, answerRecord, refusedEvaluation, evaluatedOutcome, evaluationOutcome, evalCall, changesOf, changedRecord, commitOutcome, commitCall, commitChangesOf, advancedRecord};
+ghost use Rattle.record_steps.specs.Steps.{goodConditions, conditionsFrom, answerRecord, refusedEvaluation, evaluatedOutcome, evaluationOutcome, evalCall, changesOf, commitOutcome, commitCall, commitChangesOf};
 ghost use Rattle.record.specs.declared.DeviceRecord.{DeviceRecord};
 
 // What an evaluation is handed besides the voltages. The limiter and the transient flag are 0 or 1.
@@ -181,44 +180,6 @@ pub fn evaluate(r: DeviceRecord, x: &[f64], k: ConditionsRecord) -> EvaluationCh
     evaluation_changes(r, a)
 }
 
-fn changed_record(r: DeviceRecord, c: EvaluationChanges) -> DeviceRecord
-    ensures { λ o. ⌜ o ≡ changedRecord r c ⌝ }
-{
-    let card = r.card;
-    let geometry = r.geometry;
-    let scaled = r.scaled;
-    let terminals = r.terminals;
-    let histories = r.histories;
-    let point = c.point;
-    let charges = c.charges;
-    let method = c.method;
-    DeviceRecord {
-        card,
-        geometry,
-        scaled,
-        terminals,
-        point,
-        charges,
-        histories,
-        method,
-        stage: c.stage,
-    }
-}
-
-// The same with the whole record by value.
-pub fn eval(r: DeviceRecord, x: &[f64], k: ConditionsRecord) -> EvaluationOutcome
-    ensures { λ o. ⌜ o ≡ evalCall r (now (x .entry)) k ⌝ }
-{
-    let c = evaluate(r, x, k);
-    let reply = c.reply;
-    let answer = reply.answer;
-    EvaluationOutcome {
-        refusal: reply.refusal,
-        answer,
-        device: changed_record(r, c),
-    }
-}
-
 fn refused_commit(r: DeviceRecord, n: u64) -> CommitChanges
     ensures { λ c. ⌜ c ≡ commitChangesOf (record { refusal = n; device = r }) ⌝ }
 {
@@ -258,39 +219,4 @@ pub fn commit(r: DeviceRecord, x: &[f64]) -> CommitChanges
     let d = from_record::device_from(r);
     let a = model::calls::commit_timestep(d, x);
     commit_changes(r, a)
-}
-
-fn advanced_record(r: DeviceRecord, c: CommitChanges) -> DeviceRecord
-    ensures { λ o. ⌜ o ≡ advancedRecord r c ⌝ }
-{
-    let card = r.card;
-    let geometry = r.geometry;
-    let scaled = r.scaled;
-    let terminals = r.terminals;
-    let charges = r.charges;
-    let method = r.method;
-    let point = c.point;
-    let histories = c.histories;
-    DeviceRecord {
-        card,
-        geometry,
-        scaled,
-        terminals,
-        point,
-        charges,
-        histories,
-        method,
-        stage: r.stage,
-    }
-}
-
-// The same with the whole record by value.
-pub fn commit_timestep(r: DeviceRecord, x: &[f64]) -> DeviceOutcome
-    ensures { λ o. ⌜ o ≡ commitCall r (now (x .entry)) ⌝ }
-{
-    let c = commit(r, x);
-    DeviceOutcome {
-        refusal: c.refusal,
-        device: advanced_record(r, c),
-    }
 }
