@@ -5,11 +5,10 @@ use Prim.Native.Nat.{ℕ, _+_, _-_, _*_, _/_, _%_, _^_, _≤_, _<_}
 use native.Mathlib.Nat.{le-trans, le-of-eq, lt-of-not-le, mul-assoc, mul-comm, mul-le-mul-left, mul-add, mul-one, add-zero, eq-of-mul-eq-mul-right}
 use native.Mathlib.Decide.{decLe}
 use native.Mathlib.Omega.{arith}
-use lib.Dec.{ltb}
 use lib.Pow.{pow-add, pow-pos}
 use lib.Ieee.{Float, nan, inf, fin, binary64, ofBits, up, down}
 use lib.Ieee.Exact.{HasValue}
-use borrow.Author.Tests.{lt-ltb, le-ltb}
+use borrow.Author.Tests.{le-ltb}
 use Rattle.exponential.proofs.Patterns.{unitsOf, value}
 use Rattle.exponential.specs.Exponential.{patternOf}
 
@@ -74,18 +73,15 @@ held-at m k d q s cut rest e low high h = record {
     moved : s * 2 ^ (k + d) * 2 ^ 10 ≡ 2 ^ k * (s * q)
     moved = ap (λ (z : ℕ). s * z * 2 ^ 10) (pow-add 2 k d) ∙ sort s (2 ^ k) (2 ^ d) (2 ^ 10) ∙ ap (λ (z : ℕ). 2 ^ k * (s * z)) e
 
-pub held : (m k : ℕ) → 2 ^ 62 ≤ m → m < 2 ^ 64 → k ≤ 1010 → Held m k (ofBits binary64 (patternOf m k))
+pub held : (m k : ℕ) → 2 ^ 62 ≤ m → m < 2 ^ 63 + 2 ^ 10 → k ≤ 1010 → Held m k (ofBits binary64 (patternOf m k))
 unfolding patternOf
 held m k lo hi h = either (decLe (2 ^ 63) m)
   where
-    shown : (t : Bool) → Type 0
-    shown t = Held m k (ofBits binary64 (cond t ((k + 1022) * 2 ^ 52 + m / 2 ^ 10) ((k + 1023) * 2 ^ 52 + m / 2 ^ 11)))
+    carried : (m k : ℕ) → 2 ^ 63 ≤ m → m < 2 ^ 63 + 2 ^ 10 → (k + 1 + 1022) * 2 ^ 52 + 2 ^ 52 ≡ (k + 1022) * 2 ^ 52 + m / 2 ^ 10
+    carried m k g f = omega arith
 
-    either : Dec (2 ^ 63 ≤ m) → Held m k (ofBits binary64 (cond (ltb m (2 ^ 63)) ((k + 1022) * 2 ^ 52 + m / 2 ^ 10) ((k + 1023) * 2 ^ 52 + m / 2 ^ 11)))
-    either (yes g) = subst shown (sym (le-ltb m (2 ^ 63) g)) (subst (λ (z : ℕ). Held m k (ofBits binary64 (z * 2 ^ 52 + m / 2 ^ 11))) (next k) (held-at m k 1 (2 ^ 11) (m / 2 ^ 11) (omega arith) (omega arith) refl (omega arith) (omega arith) (omega arith)))
-      where
-        next : (k : ℕ) → k + 1 + 1022 ≡ k + 1023
-        next k = omega arith
+    either : Dec (2 ^ 63 ≤ m) → Held m k (ofBits binary64 ((k + 1022) * 2 ^ 52 + m / 2 ^ 10))
+    either (yes g) = subst (λ (z : ℕ). Held m k (ofBits binary64 z)) (carried m k g hi) (held-at m k 1 (2 ^ 11) (2 ^ 52) (omega arith) (omega arith) refl (omega arith) (omega arith) (omega arith))
     either (no f) =
         let g : m < 2 ^ 63 = lt-of-not-le f in
-        subst shown (sym (lt-ltb m (2 ^ 63) g)) (subst (λ (z : ℕ). Held m k (ofBits binary64 ((z + 1022) * 2 ^ 52 + m / 2 ^ 10))) (add-zero k) (held-at m k 0 (2 ^ 10) (m / 2 ^ 10) (omega arith) (omega arith) refl (omega arith) (omega arith) (omega arith)))
+        subst (λ (z : ℕ). Held m k (ofBits binary64 ((z + 1022) * 2 ^ 52 + m / 2 ^ 10))) (add-zero k) (held-at m k 0 (2 ^ 10) (m / 2 ^ 10) (omega arith) (omega arith) refl (omega arith) (omega arith) (omega arith))

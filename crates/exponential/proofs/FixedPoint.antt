@@ -24,8 +24,8 @@ use Rattle.series.proofs.AtFractions.{E-above}
 use Rattle.series.proofs.Order.{sandwich}
 use Rattle.exponential.specs.Mantissa.{mantOf}
 use Rattle.exponential.specs.Exponential.{restOf, placeOf, expFixed}
-use Rattle.exponential.proofs.Mantissa.{mant-ge, mant-lt}
-use Rattle.exponential.proofs.Whole.{rest-lt, place-le}
+use Rattle.exponential.proofs.Mantissa.{mant-ge}
+use Rattle.exponential.proofs.Whole.{rest-lt, place-le, mant-under}
 use Rattle.exponential.proofs.Assembling.{Held, held}
 use Rattle.exponential.proofs.Relative.{not-below, not-above}
 
@@ -45,8 +45,8 @@ weighed A t b P w v B C h =
     sandwich (*-cong (≈-sym (frac-nat A)) (≈-refl (t // b)) ⟫ frac-* A t (zero-lt-suc 0) B) (*-cong (≈-sym (frac-nat P)) (≈-refl (w // v)) ⟫ frac-* P w (zero-lt-suc 0) C)
     (frac-≤ (A * t) (P * w) (mul-pos (zero-lt-suc 0) B) (mul-pos (zero-lt-suc 0) C) (le-trans (le-of-eq (ap (λ (z : ℕ). A * t * z) (one-mul v))) (le-trans h (le-of-eq (ap (λ (z : ℕ). P * w * z) (sym (one-mul b)))))))
 
-not-large : (w k M : ℕ) → k ≤ 1010 → M < 2 ^ 64 → w * 2 ^ 10 ≤ 2 ^ k * M → w ≤ 2 ^ 1073
-not-large w k M h m u = le-of-mul-le-mul-right {k = 2 ^ 10} (le-trans u (le-trans (mul-le-mul (pow-mono h) (le-of-lt m)) (lit≤ {m = 2 ^ 1010 * 2 ^ 64} {n = 2 ^ 1073 * 2 ^ 10} tt))) (lit< tt)
+not-large : (w k M : ℕ) → k ≤ 1010 → M < 2 ^ 63 + 2 ^ 10 → w * 2 ^ 10 ≤ 2 ^ k * M → w ≤ 2 ^ 1073
+not-large w k M h m u = le-of-mul-le-mul-right {k = 2 ^ 10} (le-trans u (le-trans (mul-le-mul (pow-mono h) (le-of-lt m)) (lit≤ {m = 2 ^ 1010 * (2 ^ 63 + 2 ^ 10)} {n = 2 ^ 1073 * 2 ^ 10} tt))) (lit< tt)
 
 module _ (X : ℕ) (h : X ≤ 700 * 2 ^ 53) where
   abbrev M : ℕ
@@ -58,7 +58,7 @@ module _ (X : ℕ) (h : X ≤ 700 * 2 ^ 53) where
   -- what the pattern holds: w / 2^52
   parts : Held M (placeOf X) (expFixed X)
   unfolding expFixed
-  parts = held M (placeOf X) large (mant-lt (restOf X) (rest-lt X h)) (place-le X h)
+  parts = held M (placeOf X) large (mant-under X h) (place-le X h)
 
   result-is : value (expFixed X) ≈q parts .w // 2 ^ 52
   result-is = value-is (expFixed X) (parts .w) (2 ^ 52) (pow-pos 52) (parts .is)
@@ -70,7 +70,7 @@ module _ (X : ℕ) (h : X ≤ 700 * 2 ^ 53) where
   fixed-at-least = sandwich (≈-sym (frac-nat 1)) result-is (frac-≤ _ _ (zero-lt-suc 0) (pow-pos 52) (le-trans (le-of-eq (one-mul (2 ^ 52))) (le-trans (parts .large) (le-of-eq (sym (mul-one (parts .w)))))))
 
   pub fixed-at-most : value (expFixed X) ≤q nat (2 ^ 1021)
-  fixed-at-most = sandwich result-is (≈-sym (frac-nat (2 ^ 1021))) (frac-≤ _ _ (pow-pos 52) (zero-lt-suc 0) (le-trans (le-of-eq (mul-one (parts .w))) (not-large (parts .w) (placeOf X) M (place-le X h) (mant-lt (restOf X) (rest-lt X h)) (parts .under))))
+  fixed-at-most = sandwich result-is (≈-sym (frac-nat (2 ^ 1021))) (frac-≤ _ _ (pow-pos 52) (zero-lt-suc 0) (le-trans (le-of-eq (mul-one (parts .w))) (not-large (parts .w) (placeOf X) M (place-le X h) (mant-under X h) (parts .under))))
 
   pub fixed-close : {v : ℚ} (N : ℕ) → Enough N → X // 2 ^ 53 ≤q v → v ≤q (X + 1) // 2 ^ 53 → Within (value (expFixed X)) (E N v) (1 // 2 ^ 47 *q E N v)
   fixed-close {v} N n from to =

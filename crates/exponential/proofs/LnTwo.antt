@@ -5,11 +5,12 @@ use native.Mathlib.Nat.{le-refl, le-trans, le-of-eq, mul-assoc, mul-left-comm, a
 use native.Mathlib.Omega.{arith}
 use lib.Dec.{T, leb, leb→le, lit≤, lit<}
 use Rattle.series.specs.Series.{top, bot}
+use Rattle.exponential.specs.Exponential.{lnTwo}
 use Rattle.series.proofs.Product.{bot-pos}
 use Rattle.series.proofs.Bounds.{Up, Lo, doubled, up-doubled, up-weaken}
 
 abbrev pub Λ : ℕ
-Λ = 12786308645202655659
+Λ = lnTwo
 
 up-test : T (leb (doubled 24 Λ (2 ^ 64) * 1) (2 * bot 25 (2 ^ 64)))
 unfolding doubled top bot
@@ -24,6 +25,14 @@ up-two = up-weaken (bot-pos 25 (2 ^ 64) (lit< tt)) (leb→le (doubled 24 Λ (2 ^
 
 pub lo-two : Lo Λ (2 ^ 64) (2 * (2 ^ 63 - 1)) (2 ^ 63)
 lo-two = record { terms = 24; bound = leb→le (2 * (2 ^ 63 - 1) * bot 24 (2 ^ 64)) (top 24 Λ (2 ^ 64) * 2 ^ 63) lo-test }
+
+-- a little above ln 2
+past-test : T (leb (doubled 24 (Λ + 2 ^ 10) (2 ^ 64) * 2 ^ 62) ((2 ^ 63 + 2 ^ 10 - 1) * bot 25 (2 ^ 64)))
+unfolding doubled top bot
+past-test = tt
+
+pub up-past-two : Up (Λ + 2 ^ 10) (2 ^ 64) (2 ^ 63 + 2 ^ 10 - 1) (2 ^ 62)
+up-past-two = up-weaken (bot-pos 25 (2 ^ 64) (lit< tt)) (leb→le (doubled 24 (Λ + 2 ^ 10) (2 ^ 64) * 2 ^ 62) ((2 ^ 63 + 2 ^ 10 - 1) * bot 25 (2 ^ 64)) past-test) (up-doubled 24 (Λ + 2 ^ 10) (2 ^ 64) (lit< tt) (lit≤ tt))
 
 -- (1 - 1/Q)^k ≥ 1 - k/Q, for Q = P + 1 and k + m = Q
 pub bernoulli : (P k m : ℕ) → k + m ≡ suc P → suc P ^ k * m ≤ P ^ k * suc P

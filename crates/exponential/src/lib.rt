@@ -7,7 +7,9 @@ ghost use lib.Ieee.{binary64, ofBits, le};
 ghost use lib.Ieee.Positive.{positive};
 ghost use Rattle.exponential.specs.Mantissa.{expTable, mantOf};
 ghost use Rattle.exponential.specs.Exponential.{patternOf, expFixed, fixedOf, expAbove, expOf, least, greatest};
+use std::num::wrapping_sub_u64;
 use wide::mulhi;
+use wide::mullo;
 
 // e^(j / 32) in units of 2^-63, rounded down. A match, which LLVM makes a table of: a constant array is stored anew at each call.
 // j has five bits where it is called. Arms for all 32 numbers, the last of another value, spare the test of j.
@@ -88,22 +90,21 @@ fn fixed(x: f64) -> u64
     0
 }
 
-// m * 2^(k - 62), cut to 53 digits.
+// m * 2^(k - 62), cut to 53 digits. Where m is 2^63 or a little more, its digits are 2^53, which carries into the exponent.
 fn assembled(m: u64, k: u64) -> f64
-    requires { ⌜ (2 ^ 62 ≤ m) × (k ≤ 1010) ⌝ }
+    requires { ⌜ (2 ^ 62 ≤ m) × (m < 2 ^ 63 + 2 ^ 10) × (k ≤ 1010) ⌝ }
     ensures { λ r. ⌜ r ≡ ofBits binary64 (patternOf m k) ⌝ }
 {
-    let high = m >> 63;
-    f64::from_bits((k + 1022 + high) * 0x10_0000_0000_0000 + (m >> (10 + high)))
+    f64::from_bits((k + 1022) * 0x10_0000_0000_0000 + (m >> 10))
 }
 
-// e^(x / 2^53) = 2^k e^r, with r in units of 2^-64.
+// e^(x / 2^53) = 2^k e^r, with r in units of 2^-64. x * 2048 and k ln 2 may be too large for a word; their difference fits.
 pub fn exp_fixed(x: u64) -> f64
     requires { ⌜ x ≤ 700 * 2 ^ 53 ⌝ }
     ensures { λ r. ⌜ r ≡ expFixed x ⌝ }
 {
-    let k = x / 6243314768165360;
-    let r = (x - k * 6243314768165360) * 2048 + k * 1621;
+    let k = mulhi(x, 0xb8aa_3b29_5c17_f0bc) >> 52;
+    let r = wrapping_sub_u64(x << 11, mullo(k, 12786308645202655659));
     assembled(mant(r), k)
 }
 
