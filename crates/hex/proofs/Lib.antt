@@ -1,3 +1,4 @@
 pub mod Digits
 pub mod Patterns
 pub mod Writing
+pub mod Joining

@@ -7,7 +7,7 @@ use Rattle.hex.specs.Text.{endOf, textAt, numberText}
 use Rattle.device.specs.declared.Given.{Given}
 use Rattle.device.specs.declared.Given.the-variants.{Absent, Value}
 use Rattle.answers.specs.Text.{givenText}
-use Rattle.answers.proofs.Joining.{Written, joined}
+use Rattle.hex.proofs.Joining.{Written, joined}
 use borrow.Author.Needs.{needs}
 use Rattle.answers.proofs.put_given.Statement.{statement}
 use Rattle.answers.proofs.put_given.Tie as tie

@@ -7,7 +7,7 @@ use Rattle.hex.specs.Text.{endOf, textAt, numberText}
 use Rattle.device.specs.declared.Discretisation.{Discretisation}
 use Rattle.device.specs.declared.Discretisation.the-variants.{None, Euler, Trapezoid, Gear}
 use Rattle.answers.specs.Text.{methodText}
-use Rattle.answers.proofs.Joining.{Written, joined}
+use Rattle.hex.proofs.Joining.{Written, joined}
 use borrow.Author.Needs.{needs}
 use Rattle.answers.proofs.put_method.Statement.{statement}
 use Rattle.answers.proofs.put_method.Tie as tie

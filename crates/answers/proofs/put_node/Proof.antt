@@ -7,7 +7,7 @@ use Rattle.hex.specs.Text.{endOf, textAt, numberText}
 use Rattle.device.specs.declared.NodeId.{NodeId}
 use Rattle.device.specs.declared.NodeId.the-variants.{Ground, At}
 use Rattle.answers.specs.Text.{nodeText, wholeText}
-use Rattle.answers.proofs.Joining.{Written, joined}
+use Rattle.hex.proofs.Joining.{Written, joined}
 use borrow.Author.Needs.{needs}
 use Rattle.answers.proofs.put_node.Statement.{statement}
 use Rattle.answers.proofs.put_node.Tie as tie

@@ -7,7 +7,7 @@ use lib.ListN.{length, take, drop, set, length-set, length-drop}
 use lib.Seq.{take-all}
 use Rattle.hex.specs.Text.{endOf, textAt, numberText}
 use Rattle.answers.specs.Text.{wholeText, decimal}
-use Rattle.answers.proofs.Joining.{length-text}
+use Rattle.hex.proofs.Joining.{length-text}
 use Rattle.answers.proofs.Decimal.{stored-before, no-room, nothing-left, one-digit}
 use borrow.Author.Needs.{needs}
 use Rattle.answers.proofs.put_whole.Statement.{statement}

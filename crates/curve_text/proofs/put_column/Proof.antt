@@ -4,7 +4,7 @@ use native.Mathlib.Omega.{arith}
 use lib.ListN.{length}
 use Rattle.hex.specs.Text.{numberText}
 use Rattle.curve_text.specs.Answer.{column}
-use Rattle.curve_text.proofs.Joining.{Written, joined}
+use Rattle.hex.proofs.Joining.{Written, joined}
 use borrow.Author.Needs.{needs}
 use Rattle.curve_text.proofs.put_column.Statement.{statement}
 use Rattle.curve_text.proofs.put_column.Tie as tie

@@ -4,7 +4,7 @@ use native.Mathlib.Omega.{arith}
 use lib.ListN.{length}
 use mathlib.Core.List.{[], _∷_}
 use Rattle.curve_text.specs.Answer.{column, pointText}
-use Rattle.curve_text.proofs.Joining.{Written, joined}
+use Rattle.hex.proofs.Joining.{Written, joined}
 use borrow.Author.Needs.{needs}
 use Rattle.curve_text.proofs.put_point.Statement.{statement}
 use Rattle.curve_text.proofs.put_point.Tie as tie

@@ -3,26 +3,26 @@ use Prim.Native.Nat.{ℕ}
 use mathlib.Core.Path.{_≡_, refl, sym, _∙_, ap, ap₂}
 use mathlib.Core.List.{List, [], _∷_, _++_}
 use lib.ListN.{length, set, length-set}
 use Rattle.hex.specs.Text.{after, endOf, textAt}
 
 pub length-text : (out : List ℕ) (at : ℕ) (s : List ℕ) → length (textAt out at s) ≡ length out
 unfolding textAt
 length-text out at [] = refl
 length-text out at (b ∷ s) = length-text (set out at b) (after (length out) at) s ∙ length-set out at b
 
-end-append : (n at : ℕ) (s t : List ℕ) → endOf n at (s ++ t) ≡ endOf n (endOf n at s) t
+pub end-append : (n at : ℕ) (s t : List ℕ) → endOf n at (s ++ t) ≡ endOf n (endOf n at s) t
 unfolding endOf
 end-append n at [] t = refl
 end-append n at (b ∷ s) t = end-append n (after n at) s t
 
-text-append : (out : List ℕ) (at : ℕ) (s t : List ℕ) → textAt out at (s ++ t) ≡ textAt (textAt out at s) (endOf (length out) at s) t
+pub text-append : (out : List ℕ) (at : ℕ) (s t : List ℕ) → textAt out at (s ++ t) ≡ textAt (textAt out at s) (endOf (length out) at s) t
 unfolding textAt endOf
 text-append out at [] t = refl
 text-append out at (b ∷ s) t =
     text-append (set out at b) (after (length out) at) s t
     ∙ ap (λ (n : ℕ). textAt (textAt (set out at b) (after (length out) at) s) (endOf n (after (length out) at) s) t) (length-set out at b)
 
--- s from `at` on, then t behind it
+-- the text s from `at` on, and the place after it
 pub record Written (out : List ℕ) (at : ℕ) (s : List ℕ) (end : ℕ) (result : List ℕ) : Type 0 where
   pub ends : end ≡ endOf (length out) at s
   pub holds : result ≡ textAt out at s
