@@ -22,7 +22,7 @@ split x = parts (x / 6243314768165360) (x % 6243314768165360) ∙ ap (λ (z : �
     parts : (k m : ℕ) → k * 12786308645202655659 + (m * 2048 + k * 1621) ≡ (k * 6243314768165360 + m) * 2048
     parts k m = omega arith
 
-pub rest-lt : (x : ℕ) → x ≤ 700 * 2 ^ 53 → restOf x < 23 * 2 ^ 59
+pub rest-lt : (x : ℕ) → x ≤ 700 * 2 ^ 53 → restOf x < 178 * 2 ^ 56
 unfolding restOf
 rest-lt x h = omega arith
 
@@ -30,10 +30,10 @@ pub place-le : (x : ℕ) → x ≤ 700 * 2 ^ 53 → placeOf x ≤ 1010
 place-le x h = omega arith
 
 module _ (x : ℕ) (h : x ≤ 700 * 2 ^ 53) where
-  pub fixed-up : Up (x * 2048) B (2 ^ placeOf x * (mantOf (restOf x) + 512)) (2 ^ 62)
+  pub fixed-up : Up (x * 2048) B (2 ^ placeOf x * (mantOf (restOf x) + 6000)) (2 ^ 62)
   fixed-up =
-      subst (λ (z : ℕ). Up z B (2 ^ placeOf x * (mantOf (restOf x) + 512)) (2 ^ 62)) (split x)
-      (subst (λ (z : ℕ). Up (placeOf x * Λ + restOf x) B (2 ^ placeOf x * (mantOf (restOf x) + 512)) z) (ap (λ (z : ℕ). z * 2 ^ 62) (one-pow (placeOf x)))
+      subst (λ (z : ℕ). Up z B (2 ^ placeOf x * (mantOf (restOf x) + 6000)) (2 ^ 62)) (split x)
+      (subst (λ (z : ℕ). Up (placeOf x * Λ + restOf x) B (2 ^ placeOf x * (mantOf (restOf x) + 6000)) z) (ap (λ (z : ℕ). z * 2 ^ 62) (one-pow (placeOf x)))
       (up-add (lit< tt) (up-pow (lit< tt) up-two (placeOf x)) (mant-up (restOf x) (rest-lt x h))))
     where
       one-pow : (k : ℕ) → 1 ^ k ≡ 1
