@@ -172,9 +172,9 @@ charges2 = record {
 abbrev pub point3 : OperatingPoint
 point3 = record {
   «ids_eval» = f64 0x3f78_c7fa_7e2a_209e;
-  gbs = f64 0x3e3a_2f1b_4d91_4dbf;
+  gbs = f64 0x3e3a_2f1b_4d91_4dbe;
   gbd = f64 0x3d71_9799_812d_ea11;
-  «ibs_eq» = f64 0xbe17_78a9_d7fc_27ab;
+  «ibs_eq» = f64 0xbe17_78a9_d7fc_27aa;
   «ibd_eq» = f64 0xbd06_849b_86a1_2b80;
   gm = f64 0x3f61_a6d9_5c69_7ad9;
   gds = f64 0x3f60_e88d_99df_1d7e;

@@ -1,8 +1,8 @@
 pub mod Arms
 pub mod Table
 pub mod LnTwo
-pub mod Horner
 pub mod Steps
+pub mod Polynomial
 pub mod Mantissa
 pub mod TableLaws
 pub mod Successor

@@ -26,12 +26,12 @@ abbrev c : ℕ
 c = (2 ^ 47 - 1) * (2 ^ 52 + 1)
 
 -- P ≤ W + Z, and Z is a small part of P
-small-part : (P W Z : ℕ) → P ≤ W + Z → 2 ^ 50 * Z ≤ P → c * P ≤ 2 ^ 99 * W
+small-part : (P W Z : ℕ) → P ≤ W + Z → 2 ^ 49 * Z ≤ P → c * P ≤ 2 ^ 99 * W
 small-part P W Z h k =
     add-le-cancel-left (2 ^ 99 * Z)
-    (le-trans (add-le-add (le-trans (le-of-eq (mul-assoc (2 ^ 49) (2 ^ 50) Z)) (mul-le-mul-left (2 ^ 49) k)) (le-refl (c * P)))
-    (le-trans (le-of-eq (sym (add-mul (2 ^ 49) c P)))
-    (le-trans (mul-le-mul-right {m = 2 ^ 49 + c} {n = 2 ^ 99} P (lit≤ tt))
+    (le-trans (add-le-add (le-trans (le-of-eq (mul-assoc (2 ^ 50) (2 ^ 49) Z)) (mul-le-mul-left (2 ^ 50) k)) (le-refl (c * P)))
+    (le-trans (le-of-eq (sym (add-mul (2 ^ 50) c P)))
+    (le-trans (mul-le-mul-right {m = 2 ^ 50 + c} {n = 2 ^ 99} P (lit≤ tt))
     (le-trans (mul-le-mul-left (2 ^ 99) h) (le-of-eq (mul-add (2 ^ 99) W Z ∙ add-comm (2 ^ 99 * W) (2 ^ 99 * Z)))))))
 
 module _ (x a b w : ℕ) (bp : 0 < b) (h : x ≤ 700 * 2 ^ 53) (from : x * b ≤ a * 2 ^ 53) (to : a * 2 ^ 53 ≤ (x + 1) * b)
@@ -43,22 +43,22 @@ module _ (x a b w : ℕ) (bp : 0 < b) (h : x ≤ 700 * 2 ^ 53) (from : x * b ≤
   abbrev M : ℕ
   M = mantOf (restOf x)
 
-  all-up : Up a b (K * (M + 512) * (2 ^ 52 + 1)) (2 ^ 62 * 2 ^ 52)
+  all-up : Up a b (K * (M + 6000) * (2 ^ 52 + 1)) (2 ^ 62 * 2 ^ 52)
   all-up = up-at a b (lit< tt) (le-trans (le-of-eq (sym (mul-assoc a (2 ^ 53) 2048))) (le-trans (mul-le-mul-right 2048 to) (le-of-eq (turn x b)))) (up-add (lit< tt) (fixed-up x h) unit-up)
     where
       turn : (x b : ℕ) → (x + 1) * b * 2048 ≡ (x * 2048 + 2048) * b
       turn x b = mul-assoc (x + 1) b 2048 ∙ ap (λ (z : ℕ). (x + 1) * z) (mul-comm b 2048) ∙ sym (mul-assoc (x + 1) 2048 b) ∙ ap (λ (z : ℕ). z * b) (add-mul x 1 2048)
 
-  arith-lo : c * (K * (M + 512)) ≤ 2 ^ 99 * (w * 2 ^ 10)
+  arith-lo : c * (K * (M + 6000)) ≤ 2 ^ 99 * (w * 2 ^ 10)
   arith-lo =
-      small-part (K * (M + 512)) (w * 2 ^ 10) (2 ^ 12 * K)
-      (le-trans (le-of-eq (mul-add K M 512)) (le-trans (add-le-add over (le-refl (K * 512))) (le-trans (le-of-eq (add-assoc (w * 2 ^ 10) (2 ^ 11 * K) (K * 512))) (add-le-add (le-refl (w * 2 ^ 10)) (few K)))))
-      (le-trans (le-of-eq (sym (mul-assoc (2 ^ 50) (2 ^ 12) K) ∙ mul-comm (2 ^ 62) K)) (mul-le-mul-left K (le-trans m (plus M))))
+      small-part (K * (M + 6000)) (w * 2 ^ 10) (2 ^ 13 * K)
+      (le-trans (le-of-eq (mul-add K M 6000)) (le-trans (add-le-add over (le-refl (K * 6000))) (le-trans (le-of-eq (add-assoc (w * 2 ^ 10) (2 ^ 11 * K) (K * 6000))) (add-le-add (le-refl (w * 2 ^ 10)) (few K)))))
+      (le-trans (le-of-eq (sym (mul-assoc (2 ^ 49) (2 ^ 13) K) ∙ mul-comm (2 ^ 62) K)) (mul-le-mul-left K (le-trans m (plus M))))
     where
-      few : (k : ℕ) → 2 ^ 11 * k + k * 512 ≤ 2 ^ 12 * k
+      few : (k : ℕ) → 2 ^ 11 * k + k * 6000 ≤ 2 ^ 13 * k
       few k = omega arith
 
-      plus : (y : ℕ) → y ≤ y + 512
+      plus : (y : ℕ) → y ≤ y + 6000
       plus y = omega arith
 
   pub not-below : (N : ℕ) → (2 ^ 47 - 1) * top N a b * 2 ^ 52 ≤ 2 ^ 47 * w * bot N b
@@ -66,7 +66,7 @@ module _ (x a b w : ℕ) (bp : 0 < b) (h : x ≤ 700 * 2 ^ 53) (from : x * b ≤
       le-of-mul-le-mul-right {k = 2 ^ 62}
       (le-trans (le-of-eq (sort1 (2 ^ 47 - 1) (top N a b) (2 ^ 52) (2 ^ 62)))
       (le-trans (mul-le-mul-left (2 ^ 47 - 1) (all-up .bound N))
-      (le-trans (le-of-eq (sort2 (2 ^ 47 - 1) (K * (M + 512)) (2 ^ 52 + 1) (bot N b)))
+      (le-trans (le-of-eq (sort2 (2 ^ 47 - 1) (K * (M + 6000)) (2 ^ 52 + 1) (bot N b)))
       (le-trans (mul-le-mul-right (bot N b) arith-lo) (le-of-eq (sort3 w (bot N b)))))))
       (lit< tt)
     where

@@ -51,7 +51,7 @@ rest-under x h = left (placeOf x) (x * 2048) (above x (placeOf x) perLnTwo Λ (2
     left : (k a : ℕ) → a < (k + 1) * Λ + 2 ^ 10 → a - k * Λ < Λ + 2 ^ 10
     left k a g = omega arith
 
-pub rest-lt : (x : ℕ) → x ≤ 700 * 2 ^ 53 → restOf x < 23 * 2 ^ 59
+pub rest-lt : (x : ℕ) → x ≤ 700 * 2 ^ 53 → restOf x < 178 * 2 ^ 56
 rest-lt x h = lt-of-lt-of-le (rest-under x h) (lit≤ tt)
 
 pub place-le : (x : ℕ) → x ≤ 700 * 2 ^ 53 → placeOf x ≤ 1010
@@ -65,10 +65,10 @@ mant-under x h = lt-of-le-of-lt (lo-le-up (mant-lo (restOf x) (rest-lt x h)) (up
     lo-le-up {a} {u} {u'} l p = le-of-mul-le-mul-right {k = bot (l .terms) B} (le-trans (l .bound) (p .bound (l .terms))) (bot-pos (l .terms) B (lit< tt))
 
 module _ (x : ℕ) (h : x ≤ 700 * 2 ^ 53) where
-  pub fixed-up : Up (x * 2048) B (2 ^ placeOf x * (mantOf (restOf x) + 512)) (2 ^ 62)
+  pub fixed-up : Up (x * 2048) B (2 ^ placeOf x * (mantOf (restOf x) + 6000)) (2 ^ 62)
   fixed-up =
-      subst (λ (z : ℕ). Up z B (2 ^ placeOf x * (mantOf (restOf x) + 512)) (2 ^ 62)) (split x)
-      (subst (λ (z : ℕ). Up (placeOf x * Λ + restOf x) B (2 ^ placeOf x * (mantOf (restOf x) + 512)) z) (ap (λ (z : ℕ). z * 2 ^ 62) (one-pow (placeOf x)))
+      subst (λ (z : ℕ). Up z B (2 ^ placeOf x * (mantOf (restOf x) + 6000)) (2 ^ 62)) (split x)
+      (subst (λ (z : ℕ). Up (placeOf x * Λ + restOf x) B (2 ^ placeOf x * (mantOf (restOf x) + 6000)) z) (ap (λ (z : ℕ). z * 2 ^ 62) (one-pow (placeOf x)))
       (up-add (lit< tt) (up-pow (lit< tt) up-two (placeOf x)) (mant-up (restOf x) (rest-lt x h))))
     where
       one-pow : (k : ℕ) → 1 ^ k ≡ 1

@@ -2,7 +2,7 @@
 use mathlib.Core.Path.{_≡_, refl, sym, ap, subst}
 use mathlib.Core.Bool.{Bool, true, false, cond}
 use Prim.Native.Nat.{ℕ, zero, suc, _+_, _-_, _*_, _/_, _^_, _≤_, _<_}
-use native.Mathlib.Nat.{le-refl, le-trans, le-of-eq, le-of-lt, lt-of-lt-of-le, lt-of-not-le, not-le-of-lt, mul-assoc, mul-add, add-mul, add-le-add, mul-le-mul-right, sub-add-cancel, one-mul, mul-one}
+use native.Mathlib.Nat.{le-refl, le-trans, le-of-eq, lt-of-lt-of-le, lt-of-not-le, not-le-of-lt, mul-assoc, mul-add, add-mul, add-le-add, mul-le-mul-right, le-add-right, sub-add-cancel, one-mul, mul-one}
 use native.Mathlib.Decide.{decLe}
 use native.Mathlib.Omega.{arith}
 use lib.Dec.{T, leb, leb→le, lit≤, lit<}
@@ -15,27 +15,27 @@ use Rattle.exponential.proofs.Successor.{mant-next}
 use Rattle.logarithm.specs.FixedPoint.{bisect, limit, guessOf, lnMantOf, distanceOf}
 use Rattle.logarithm.proofs.Halving.{bisect-lt, ln-mant-lt}
 
--- r is the last number whose mantissa is at most m
+-- r is the last number whose mantissa is at most m, or the next one's is no more than 2^14 units below m
 pub record Last (m r : ℕ) : Type 0 where
   pub here : mantOf r ≤ m
-  pub next : m < mantOf (r + 1)
+  pub next : m < mantOf (r + 1) + 2 ^ 14
 
 abbrev mid : ℕ → ℕ → ℕ
 mid lo hi = lo + (hi - lo) / 2
 
-last-of : (m lo hi : ℕ) → hi ≤ lo + 1 → lo < hi → mantOf lo ≤ m → m < mantOf hi → Last m lo
-last-of m lo hi h k p q = record { here = p; next = subst (λ (z : ℕ). m < mantOf z) e q }
+last-of : (m lo hi : ℕ) → hi ≤ lo + 1 → lo < hi → mantOf lo ≤ m → m < mantOf hi + 2 ^ 14 → Last m lo
+last-of m lo hi h k p q = record { here = p; next = subst (λ (z : ℕ). m < mantOf z + 2 ^ 14) e q }
   where
     e : hi ≡ lo + 1
     e = omega arith
 
-finds : (n m lo hi : ℕ) → hi ≤ lo + 2 ^ n → lo < hi → mantOf lo ≤ m → m < mantOf hi → Last m (bisect n m lo hi)
+finds : (n m lo hi : ℕ) → hi ≤ lo + 2 ^ n → lo < hi → mantOf lo ≤ m → m < mantOf hi + 2 ^ 14 → Last m (bisect n m lo hi)
 unfolding bisect
 finds zero m lo hi h k p q = last-of m lo hi h k p q
 finds (suc n) m lo hi h k p q =
     by-test (leb (mantOf (mid lo hi)) m) refl
     (λ e. finds n m (mid lo hi) hi (upper (2 ^ n) h') inside (leb-true (mantOf (mid lo hi)) m e) q)
-    (λ e. let g = leb-false (mantOf (mid lo hi)) m e in finds n m lo (mid lo hi) (lower (2 ^ n) h') (apart g) p g)
+    (λ e. let g = leb-false (mantOf (mid lo hi)) m e in finds n m lo (mid lo hi) (lower (2 ^ n) h') (apart g) p (lt-of-lt-of-le g (le-add-right (mantOf (mid lo hi)) (2 ^ 14))))
   where
     h' : hi ≤ lo + 2 * 2 ^ n
     h' = le-trans h (le-of-eq (ap (λ (z : ℕ). lo + z) (double n)))
@@ -70,7 +70,8 @@ first : T (leb (mantOf 0) (2 ^ 62))
 unfolding mantOf
 first = tt
 
-end : T (leb (2 ^ 63) (mantOf limit))
+-- the mantissa at the limit is a little below 2^63
+end : T (leb (2 ^ 63) (mantOf limit + 2 ^ 14))
 unfolding mantOf
 end = tt
 
@@ -85,23 +86,23 @@ searched : (m : ℕ) → 2 ^ 62 ≤ m → m < 2 ^ 63 → Close m (bisect 64 m 0 
 searched m h k =
     let r = bisect 64 m 0 limit in
     let R : r < limit = bisect-lt 64 m 0 limit (lit< tt) (lit≤ tt) (le-refl limit) in
-    let l = finds 64 m 0 limit (lit≤ tt) (lit< tt) (le-trans (leb→le (mantOf 0) (2 ^ 62) first) h) (lt-of-lt-of-le k (leb→le (2 ^ 63) (mantOf limit) end)) in
+    let l = finds 64 m 0 limit (lit≤ tt) (lit< tt) (le-trans (leb→le (mantOf 0) (2 ^ 62) first) h) (lt-of-lt-of-le k (leb→le (2 ^ 63) (mantOf limit + 2 ^ 14) end)) in
     record {
       over = more (mantOf r) m (l .here);
-      under = less (mantOf r) m (le-trans (le-of-lt (l .next)) (mant-next r (in-table' r R) (mant-lt r (in-table r R))));
+      under = less (mantOf r) (mantOf (r + 1)) m (mant-next r (in-table' r R) (mant-lt r (in-table r R))) (l .next);
     }
   where
-    in-table : (r : ℕ) → r < limit → r < 23 * 2 ^ 59
+    in-table : (r : ℕ) → r < limit → r < 178 * 2 ^ 56
     in-table r h = omega arith
 
-    in-table' : (r : ℕ) → r < limit → r + 1 < 23 * 2 ^ 59
+    in-table' : (r : ℕ) → r < limit → r + 1 < 178 * 2 ^ 56
     in-table' r h = omega arith
 
     more : (x y : ℕ) → x ≤ y → x ≤ y + 2 ^ 15
     more x y h = omega arith
 
-    less : (x y : ℕ) → y ≤ x + 1024 → y ≤ x + 2 ^ 15
-    less x y h = omega arith
+    less : (x z y : ℕ) → z ≤ x + 8192 → y < z + 2 ^ 14 → y ≤ x + 2 ^ 15
+    less x z y h k = omega arith
 
 -- e to the logarithm is m, within 2^15 units of 2^-62
 pub confirmed : (m : ℕ) → 2 ^ 62 ≤ m → m < 2 ^ 63 → Close m (lnMantOf m)
@@ -119,10 +120,10 @@ near-lo m y h l = le-trans (mul-le-mul-right (2 ^ 64) h) (le-trans (le-of-eq (ad
     big : (m y : ℕ) → y ≤ m + 2 ^ 15 → 2 ^ 62 ≤ y → 2 ^ 79 ≤ m * 2 ^ 18
     big m y h l = omega arith
 
-near-up : (m y : ℕ) → m ≤ y + 2 ^ 15 → 2 ^ 62 ≤ y → (m + 512) * 2 ^ 64 ≤ y * 2 ^ 64 + y * 2 ^ 18
+near-up : (m y : ℕ) → m ≤ y + 2 ^ 15 → 2 ^ 62 ≤ y → (m + 6000) * 2 ^ 64 ≤ y * 2 ^ 64 + y * 2 ^ 18
 near-up m y h l = le-trans (mul-le-mul-right (2 ^ 64) (more m y h)) (le-trans (le-of-eq (add-mul y (2 ^ 16) (2 ^ 64))) (add-le-add (le-refl (y * 2 ^ 64)) (big y l)))
   where
-    more : (m y : ℕ) → m ≤ y + 2 ^ 15 → m + 512 ≤ y + 2 ^ 16
+    more : (m y : ℕ) → m ≤ y + 2 ^ 15 → m + 6000 ≤ y + 2 ^ 16
     more m y h = omega arith
 
     big : (y : ℕ) → 2 ^ 62 ≤ y → 2 ^ 80 ≤ y * 2 ^ 18
@@ -132,10 +133,10 @@ module _ (m : ℕ) (l : 2 ^ 62 ≤ m) (k : m < 2 ^ 63) where
   abbrev g : ℕ
   g = lnMantOf m
 
-  inside : g < 23 * 2 ^ 59
+  inside : g < 178 * 2 ^ 56
   inside = wide g (ln-mant-lt m)
     where
-      wide : (g : ℕ) → g < limit → g < 23 * 2 ^ 59
+      wide : (g : ℕ) → g < limit → g < 178 * 2 ^ 56
       wide g h = omega arith
 
   -- m / 2^62 ≤ e^((g + 2^18) / 2^64)
@@ -152,9 +153,9 @@ module _ (m : ℕ) (l : 2 ^ 62 ≤ m) (k : m < 2 ^ 63) where
       none : (g : ℕ) → g < 2 ^ 18 → 0 ≡ g - 2 ^ 18
       none g h = omega arith
 
-      tight : (m y : ℕ) → m ≤ y + 2 ^ 15 → 2 ^ 62 ≤ y → (m + 512) * 2 ^ 64 * 2 ^ 62 ≤ y * (2 ^ 62 * (2 ^ 64 + 2 ^ 18))
+      tight : (m y : ℕ) → m ≤ y + 2 ^ 15 → 2 ^ 62 ≤ y → (m + 6000) * 2 ^ 64 * 2 ^ 62 ≤ y * (2 ^ 62 * (2 ^ 64 + 2 ^ 18))
       tight m y h l = le-trans (mul-le-mul-right (2 ^ 62) (le-trans (near-up m y h l) (le-of-eq (sym (mul-add y (2 ^ 64) (2 ^ 18)))))) (le-of-eq (mul-assoc y (2 ^ 64 + 2 ^ 18) (2 ^ 62)))
 
       either : Dec (2 ^ 18 ≤ g) → Up (g - 2 ^ 18) (2 ^ 64) m (2 ^ 62)
-      either (yes h) = up-weaken (lit< tt) (tight (mantOf g) m (confirmed m l k .over) l) (up-sub (lit< tt) (subst (λ (z : ℕ). Up z (2 ^ 64) (mantOf g + 512) (2 ^ 62)) (sym (sub-add-cancel h)) (mant-up g inside)) (one-plus (2 ^ 18) (2 ^ 64)))
+      either (yes h) = up-weaken (lit< tt) (tight (mantOf g) m (confirmed m l k .over) l) (up-sub (lit< tt) (subst (λ (z : ℕ). Up z (2 ^ 64) (mantOf g + 6000) (2 ^ 62)) (sym (sub-add-cancel h)) (mant-up g inside)) (one-plus (2 ^ 18) (2 ^ 64)))
       either (no f) = subst (λ (z : ℕ). Up z (2 ^ 64) m (2 ^ 62)) (none g (lt-of-not-le f)) (up-weaken (lit< tt) (le-trans (le-of-eq (one-mul (2 ^ 62))) (le-trans l (le-of-eq (sym (mul-one m))))) (up-zero (2 ^ 64)))

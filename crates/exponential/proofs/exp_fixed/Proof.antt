@@ -35,7 +35,7 @@ mant-requires c κs =
     let d = c .before .before in
     let x = d .before .args .x in
     let r = rest-is x _ _ _ (d .before .pre) (d .mulhi .ensures) (c .before .mullo .ensures) (c .wrapping-sub-u64 .ok) (c .wrapping-sub-u64 .ensures) in
-    subst (λ (z : ℕ). z < 23 * 2 ^ 59) (sym r) (rest-lt x (d .before .pre))
+    subst (λ (z : ℕ). z < 178 * 2 ^ 56) (sym r) (rest-lt x (d .before .pre))
 
 assembled-requires : tie.Need-assembled-requires
 assembled-requires c κs =

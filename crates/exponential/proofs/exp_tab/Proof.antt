@@ -1,7 +1,6 @@
 -- `exponential::exp_tab` meets its contract. Assumes nothing.
 use mathlib.Core.Path.{_≡_, sym, ap}
-use Prim.Native.Nat.{ℕ, _<_}
-use native.Mathlib.Omega.{arith}
+use Prim.Native.Nat.{ℕ}
 use lib.ListN.{getD}
 use Rattle.exponential.specs.Mantissa.{expTable}
 use Rattle.exponential.proofs.Arms.{last}
@@ -11,80 +10,183 @@ use Rattle.exponential.proofs.exp_tab.Tie as tie
 entry : (k j : ℕ) → k ≡ j → getD expTable k 0 ≡ getD expTable j 0
 entry k j e = ap (λ (i : ℕ). getD expTable i 0) e
 
-returns : tie.Need-returns
-returns c = entry 0 _ (sym (c .match .keys1))
-
-returns-2 : tie.Need-returns-2
-returns-2 c = entry 1 _ (sym (c .match .keys2))
-
-returns-3 : tie.Need-returns-3
-returns-3 c = entry 2 _ (sym (c .match .keys3))
-
-returns-4 : tie.Need-returns-4
-returns-4 c = entry 3 _ (sym (c .match .keys4))
-
-returns-5 : tie.Need-returns-5
-returns-5 c = entry 4 _ (sym (c .match .keys5))
-
-returns-6 : tie.Need-returns-6
-returns-6 c = entry 5 _ (sym (c .match .keys6))
-
-returns-7 : tie.Need-returns-7
-returns-7 c = entry 6 _ (sym (c .match .keys7))
-
-returns-8 : tie.Need-returns-8
-returns-8 c = entry 7 _ (sym (c .match .keys8))
-
-returns-9 : tie.Need-returns-9
-returns-9 c = entry 8 _ (sym (c .match .keys9))
-
-returns-10 : tie.Need-returns-10
-returns-10 c = entry 9 _ (sym (c .match .keys10))
-
-returns-11 : tie.Need-returns-11
-returns-11 c = entry 10 _ (sym (c .match .keys11))
-
-returns-12 : tie.Need-returns-12
-returns-12 c = entry 11 _ (sym (c .match .keys12))
-
-returns-13 : tie.Need-returns-13
-returns-13 c = entry 12 _ (sym (c .match .keys13))
-
-returns-14 : tie.Need-returns-14
-returns-14 c = entry 13 _ (sym (c .match .keys14))
-
-returns-15 : tie.Need-returns-15
-returns-15 c = entry 14 _ (sym (c .match .keys15))
-
-returns-16 : tie.Need-returns-16
-returns-16 c = entry 15 _ (sym (c .match .keys16))
-
-returns-17 : tie.Need-returns-17
-returns-17 c = entry 16 _ (sym (c .match .keys17))
-
-returns-18 : tie.Need-returns-18
-returns-18 c = entry 17 _ (sym (c .match .keys18))
-
-returns-19 : tie.Need-returns-19
-returns-19 c = entry 18 _ (sym (c .match .keys19))
-
-returns-20 : tie.Need-returns-20
-returns-20 c = entry 19 _ (sym (c .match .keys20))
-
-returns-21 : tie.Need-returns-21
-returns-21 c = entry 20 _ (sym (c .match .keys21))
-
-returns-22 : tie.Need-returns-22
-returns-22 c = entry 21 _ (sym (c .match .keys22))
-
-returns-23 : tie.Need-returns-23
-returns-23 c = entry 22 _ (last 22 (c .before .before .args .j) (c .before .match .rest) (c .before .before .pre))
-
-returns-24 : tie.Need-returns-24
-returns-24 c = absurd (beyond _ (c .if1 .left) (c .before .before .pre))
-  where
-    beyond : (j : ℕ) → 30 < j → j < 23 → ⊥
-    beyond j h k = omega arith
-
 pub exp-tab-spec : {M : Type 1} → statement M
-exp-tab-spec = tie.close (tie.spec returns returns-2 returns-3 returns-4 returns-5 returns-6 returns-7 returns-8 returns-9 returns-10 returns-11 returns-12 returns-13 returns-14 returns-15 returns-16 returns-17 returns-18 returns-19 returns-20 returns-21 returns-22 returns-23 returns-24)
+exp-tab-spec = tie.close (tie.spec
+    (λ c. entry 0 _ (sym (c .match .keys1)))
+    (λ c. entry 1 _ (sym (c .match .keys2)))
+    (λ c. entry 2 _ (sym (c .match .keys3)))
+    (λ c. entry 3 _ (sym (c .match .keys4)))
+    (λ c. entry 4 _ (sym (c .match .keys5)))
+    (λ c. entry 5 _ (sym (c .match .keys6)))
+    (λ c. entry 6 _ (sym (c .match .keys7)))
+    (λ c. entry 7 _ (sym (c .match .keys8)))
+    (λ c. entry 8 _ (sym (c .match .keys9)))
+    (λ c. entry 9 _ (sym (c .match .keys10)))
+    (λ c. entry 10 _ (sym (c .match .keys11)))
+    (λ c. entry 11 _ (sym (c .match .keys12)))
+    (λ c. entry 12 _ (sym (c .match .keys13)))
+    (λ c. entry 13 _ (sym (c .match .keys14)))
+    (λ c. entry 14 _ (sym (c .match .keys15)))
+    (λ c. entry 15 _ (sym (c .match .keys16)))
+    (λ c. entry 16 _ (sym (c .match .keys17)))
+    (λ c. entry 17 _ (sym (c .match .keys18)))
+    (λ c. entry 18 _ (sym (c .match .keys19)))
+    (λ c. entry 19 _ (sym (c .match .keys20)))
+    (λ c. entry 20 _ (sym (c .match .keys21)))
+    (λ c. entry 21 _ (sym (c .match .keys22)))
+    (λ c. entry 22 _ (sym (c .match .keys23)))
+    (λ c. entry 23 _ (sym (c .match .keys24)))
+    (λ c. entry 24 _ (sym (c .match .keys25)))
+    (λ c. entry 25 _ (sym (c .match .keys26)))
+    (λ c. entry 26 _ (sym (c .match .keys27)))
+    (λ c. entry 27 _ (sym (c .match .keys28)))
+    (λ c. entry 28 _ (sym (c .match .keys29)))
+    (λ c. entry 29 _ (sym (c .match .keys30)))
+    (λ c. entry 30 _ (sym (c .match .keys31)))
+    (λ c. entry 31 _ (sym (c .match .keys32)))
+    (λ c. entry 32 _ (sym (c .match .keys33)))
+    (λ c. entry 33 _ (sym (c .match .keys34)))
+    (λ c. entry 34 _ (sym (c .match .keys35)))
+    (λ c. entry 35 _ (sym (c .match .keys36)))
+    (λ c. entry 36 _ (sym (c .match .keys37)))
+    (λ c. entry 37 _ (sym (c .match .keys38)))
+    (λ c. entry 38 _ (sym (c .match .keys39)))
+    (λ c. entry 39 _ (sym (c .match .keys40)))
+    (λ c. entry 40 _ (sym (c .match .keys41)))
+    (λ c. entry 41 _ (sym (c .match .keys42)))
+    (λ c. entry 42 _ (sym (c .match .keys43)))
+    (λ c. entry 43 _ (sym (c .match .keys44)))
+    (λ c. entry 44 _ (sym (c .match .keys45)))
+    (λ c. entry 45 _ (sym (c .match .keys46)))
+    (λ c. entry 46 _ (sym (c .match .keys47)))
+    (λ c. entry 47 _ (sym (c .match .keys48)))
+    (λ c. entry 48 _ (sym (c .match .keys49)))
+    (λ c. entry 49 _ (sym (c .match .keys50)))
+    (λ c. entry 50 _ (sym (c .match .keys51)))
+    (λ c. entry 51 _ (sym (c .match .keys52)))
+    (λ c. entry 52 _ (sym (c .match .keys53)))
+    (λ c. entry 53 _ (sym (c .match .keys54)))
+    (λ c. entry 54 _ (sym (c .match .keys55)))
+    (λ c. entry 55 _ (sym (c .match .keys56)))
+    (λ c. entry 56 _ (sym (c .match .keys57)))
+    (λ c. entry 57 _ (sym (c .match .keys58)))
+    (λ c. entry 58 _ (sym (c .match .keys59)))
+    (λ c. entry 59 _ (sym (c .match .keys60)))
+    (λ c. entry 60 _ (sym (c .match .keys61)))
+    (λ c. entry 61 _ (sym (c .match .keys62)))
+    (λ c. entry 62 _ (sym (c .match .keys63)))
+    (λ c. entry 63 _ (sym (c .match .keys64)))
+    (λ c. entry 64 _ (sym (c .match .keys65)))
+    (λ c. entry 65 _ (sym (c .match .keys66)))
+    (λ c. entry 66 _ (sym (c .match .keys67)))
+    (λ c. entry 67 _ (sym (c .match .keys68)))
+    (λ c. entry 68 _ (sym (c .match .keys69)))
+    (λ c. entry 69 _ (sym (c .match .keys70)))
+    (λ c. entry 70 _ (sym (c .match .keys71)))
+    (λ c. entry 71 _ (sym (c .match .keys72)))
+    (λ c. entry 72 _ (sym (c .match .keys73)))
+    (λ c. entry 73 _ (sym (c .match .keys74)))
+    (λ c. entry 74 _ (sym (c .match .keys75)))
+    (λ c. entry 75 _ (sym (c .match .keys76)))
+    (λ c. entry 76 _ (sym (c .match .keys77)))
+    (λ c. entry 77 _ (sym (c .match .keys78)))
+    (λ c. entry 78 _ (sym (c .match .keys79)))
+    (λ c. entry 79 _ (sym (c .match .keys80)))
+    (λ c. entry 80 _ (sym (c .match .keys81)))
+    (λ c. entry 81 _ (sym (c .match .keys82)))
+    (λ c. entry 82 _ (sym (c .match .keys83)))
+    (λ c. entry 83 _ (sym (c .match .keys84)))
+    (λ c. entry 84 _ (sym (c .match .keys85)))
+    (λ c. entry 85 _ (sym (c .match .keys86)))
+    (λ c. entry 86 _ (sym (c .match .keys87)))
+    (λ c. entry 87 _ (sym (c .match .keys88)))
+    (λ c. entry 88 _ (sym (c .match .keys89)))
+    (λ c. entry 89 _ (sym (c .match .keys90)))
+    (λ c. entry 90 _ (sym (c .match .keys91)))
+    (λ c. entry 91 _ (sym (c .match .keys92)))
+    (λ c. entry 92 _ (sym (c .match .keys93)))
+    (λ c. entry 93 _ (sym (c .match .keys94)))
+    (λ c. entry 94 _ (sym (c .match .keys95)))
+    (λ c. entry 95 _ (sym (c .match .keys96)))
+    (λ c. entry 96 _ (sym (c .match .keys97)))
+    (λ c. entry 97 _ (sym (c .match .keys98)))
+    (λ c. entry 98 _ (sym (c .match .keys99)))
+    (λ c. entry 99 _ (sym (c .match .keys100)))
+    (λ c. entry 100 _ (sym (c .match .keys101)))
+    (λ c. entry 101 _ (sym (c .match .keys102)))
+    (λ c. entry 102 _ (sym (c .match .keys103)))
+    (λ c. entry 103 _ (sym (c .match .keys104)))
+    (λ c. entry 104 _ (sym (c .match .keys105)))
+    (λ c. entry 105 _ (sym (c .match .keys106)))
+    (λ c. entry 106 _ (sym (c .match .keys107)))
+    (λ c. entry 107 _ (sym (c .match .keys108)))
+    (λ c. entry 108 _ (sym (c .match .keys109)))
+    (λ c. entry 109 _ (sym (c .match .keys110)))
+    (λ c. entry 110 _ (sym (c .match .keys111)))
+    (λ c. entry 111 _ (sym (c .match .keys112)))
+    (λ c. entry 112 _ (sym (c .match .keys113)))
+    (λ c. entry 113 _ (sym (c .match .keys114)))
+    (λ c. entry 114 _ (sym (c .match .keys115)))
+    (λ c. entry 115 _ (sym (c .match .keys116)))
+    (λ c. entry 116 _ (sym (c .match .keys117)))
+    (λ c. entry 117 _ (sym (c .match .keys118)))
+    (λ c. entry 118 _ (sym (c .match .keys119)))
+    (λ c. entry 119 _ (sym (c .match .keys120)))
+    (λ c. entry 120 _ (sym (c .match .keys121)))
+    (λ c. entry 121 _ (sym (c .match .keys122)))
+    (λ c. entry 122 _ (sym (c .match .keys123)))
+    (λ c. entry 123 _ (sym (c .match .keys124)))
+    (λ c. entry 124 _ (sym (c .match .keys125)))
+    (λ c. entry 125 _ (sym (c .match .keys126)))
+    (λ c. entry 126 _ (sym (c .match .keys127)))
+    (λ c. entry 127 _ (sym (c .match .keys128)))
+    (λ c. entry 128 _ (sym (c .match .keys129)))
+    (λ c. entry 129 _ (sym (c .match .keys130)))
+    (λ c. entry 130 _ (sym (c .match .keys131)))
+    (λ c. entry 131 _ (sym (c .match .keys132)))
+    (λ c. entry 132 _ (sym (c .match .keys133)))
+    (λ c. entry 133 _ (sym (c .match .keys134)))
+    (λ c. entry 134 _ (sym (c .match .keys135)))
+    (λ c. entry 135 _ (sym (c .match .keys136)))
+    (λ c. entry 136 _ (sym (c .match .keys137)))
+    (λ c. entry 137 _ (sym (c .match .keys138)))
+    (λ c. entry 138 _ (sym (c .match .keys139)))
+    (λ c. entry 139 _ (sym (c .match .keys140)))
+    (λ c. entry 140 _ (sym (c .match .keys141)))
+    (λ c. entry 141 _ (sym (c .match .keys142)))
+    (λ c. entry 142 _ (sym (c .match .keys143)))
+    (λ c. entry 143 _ (sym (c .match .keys144)))
+    (λ c. entry 144 _ (sym (c .match .keys145)))
+    (λ c. entry 145 _ (sym (c .match .keys146)))
+    (λ c. entry 146 _ (sym (c .match .keys147)))
+    (λ c. entry 147 _ (sym (c .match .keys148)))
+    (λ c. entry 148 _ (sym (c .match .keys149)))
+    (λ c. entry 149 _ (sym (c .match .keys150)))
+    (λ c. entry 150 _ (sym (c .match .keys151)))
+    (λ c. entry 151 _ (sym (c .match .keys152)))
+    (λ c. entry 152 _ (sym (c .match .keys153)))
+    (λ c. entry 153 _ (sym (c .match .keys154)))
+    (λ c. entry 154 _ (sym (c .match .keys155)))
+    (λ c. entry 155 _ (sym (c .match .keys156)))
+    (λ c. entry 156 _ (sym (c .match .keys157)))
+    (λ c. entry 157 _ (sym (c .match .keys158)))
+    (λ c. entry 158 _ (sym (c .match .keys159)))
+    (λ c. entry 159 _ (sym (c .match .keys160)))
+    (λ c. entry 160 _ (sym (c .match .keys161)))
+    (λ c. entry 161 _ (sym (c .match .keys162)))
+    (λ c. entry 162 _ (sym (c .match .keys163)))
+    (λ c. entry 163 _ (sym (c .match .keys164)))
+    (λ c. entry 164 _ (sym (c .match .keys165)))
+    (λ c. entry 165 _ (sym (c .match .keys166)))
+    (λ c. entry 166 _ (sym (c .match .keys167)))
+    (λ c. entry 167 _ (sym (c .match .keys168)))
+    (λ c. entry 168 _ (sym (c .match .keys169)))
+    (λ c. entry 169 _ (sym (c .match .keys170)))
+    (λ c. entry 170 _ (sym (c .match .keys171)))
+    (λ c. entry 171 _ (sym (c .match .keys172)))
+    (λ c. entry 172 _ (sym (c .match .keys173)))
+    (λ c. entry 173 _ (sym (c .match .keys174)))
+    (λ c. entry 174 _ (sym (c .match .keys175)))
+    (λ c. entry 175 _ (sym (c .match .keys176)))
+    (λ c. entry 176 _ (sym (c .match .keys177)))
+    (λ c. entry 177 _ (last 177 (c .before .args .j) (c .match .rest) (c .before .pre))))
