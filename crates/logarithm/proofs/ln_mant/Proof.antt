@@ -1,44 +1,76 @@
 -- `logarithm::ln_mant` meets its contract. Assumes nothing.
 use mathlib.Core.Path.{_≡_, sym, ap, _∙_, subst}
-use mathlib.Core.Bool.{Bool, cond}
-use Prim.Native.Nat.{ℕ, _-_, _≤_, _<_}
-use lib.Dec.{leb}
-use borrow.Author.Tests.{le-leb, lt-leb}
+use Prim.Native.Nat.{ℕ, _+_, _-_, _*_, _/_, _%_, _^_, _≤_, _<_, min}
+use native.Mathlib.Omega.{arith}
+use native.Mathlib.Nat.{le-trans, le-of-lt, min-eq-left, min-eq-right}
+use lib.Bits.{bitAnd, and-mask, mask-lt}
+use lib.Dec.{lit<}
+use lib.ListN.{getD}
+use mir.Facts.{fits-bits}
 use borrow.Author.Needs.{needs}
-use Rattle.exponential.specs.Mantissa.{mantOf}
-use Rattle.logarithm.specs.FixedPoint.{guessOf, distanceOf, bisect, lnMantOf, limit}
-use Rattle.logarithm.proofs.Halving.{ln-mant-lt}
+use Rattle.exponential.specs.Mantissa.{hi}
+use Rattle.logarithm.specs.LnTable.{lnTable, inverseOf}
+use Rattle.logarithm.specs.FixedPoint.{nearOne, lnMantOf, limit}
+use Rattle.logarithm.proofs.Tables.{greatest, entry-le}
 use Rattle.logarithm.proofs.ln_mant.Statement.{statement}
 use Rattle.logarithm.proofs.ln_mant.Tie as tie
 
-accepted : (m g e d : ℕ) → g ≡ guessOf m → e ≡ mantOf g → d ≡ distanceOf e m → d ≤ 32768 → g ≡ lnMantOf m
-unfolding lnMantOf
-accepted m g e d eg ee ed h = eg ∙ sym (ap (λ (b : Bool). cond b (guessOf m) (bisect 64 m 0 limit)) (le-leb _ 32768 (subst (λ (x : ℕ). x ≤ 32768) (ed ∙ ap (λ (x : ℕ). distanceOf x m) (ee ∙ ap mantOf eg)) h)))
+-- the sum as defined
+sum-is : (m j v c t z r : ℕ) → j ≡ m / 2 ^ 55 % 128 → v ≡ inverseOf j → c ≡ 2 * m * v / 2 ^ 64 → t ≡ getD lnTable j 0 → z ≡ (c * 4 % 2 ^ 64) % 2 ^ 57 → r ≡ nearOne z
+    → t + r ≡ getD lnTable (m / 2 ^ 55 % 128) 0 + nearOne (4 * hi (2 * m) (inverseOf (m / 2 ^ 55 % 128)) % 2 ^ 57)
+sum-is m j v c t z r ej ev ec et ez er =
+    let pc : c ≡ hi (2 * m) (inverseOf (m / 2 ^ 55 % 128)) = ec ∙ (λ i. 2 * m * (ev ∙ ap inverseOf ej) i / 2 ^ 64) in
+    (λ i. (et ∙ ap (λ (k : ℕ). getD lnTable k 0) ej) i + (er ∙ ap nearOne (ez ∙ cut c ∙ ap (λ (y : ℕ). 4 * y % 2 ^ 57) pc)) i)
+  where
+    cut : (c : ℕ) → (c * 4 % 2 ^ 64) % 2 ^ 57 ≡ 4 * c % 2 ^ 57
+    cut c = omega arith
 
-searched : (m g e d r : ℕ) → g ≡ guessOf m → e ≡ mantOf g → d ≡ distanceOf e m → 32768 < d → r ≡ bisect 64 m 0 limit → r ≡ lnMantOf m
-unfolding lnMantOf
-searched m g e d r eg ee ed h er = er ∙ sym (ap (λ (b : Bool). cond b (guessOf m) (bisect 64 m 0 limit)) (lt-leb _ 32768 (subst (λ (x : ℕ). 32768 < x) (ed ∙ ap (λ (x : ℕ). distanceOf x m) (ee ∙ ap mantOf eg)) h)))
+sum-lt : (a b z : ℕ) → a ≤ greatest → b ≤ z → z < 2 ^ 57 → a + b < 2 ^ 64
+sum-lt a b z h k l = omega arith
 
-below : (r m : ℕ) → r ≡ lnMantOf m → (r ≡ lnMantOf m) × (r < limit)
-below r m e = (e, subst (λ (x : ℕ). x < limit) (sym e) (ln-mant-lt m))
+under : (x : ℕ) → x < limit → x ≤ limit - 1
+under x h = omega arith
 
-guess-requires : tie.Need-guess-requires
-guess-requires c κs = search needs
+over : (x : ℕ) → limit ≤ x → limit - 1 ≤ x
+over x h = omega arith
 
-mant-requires : tie.Need-mant-requires
-mant-requires c κs = search needs
+entry-requires : tie.Need-entry-requires
+entry-requires c κs = mask-lt (c .args .m / 2 ^ 55) 7
 
-distance-requires : tie.Need-distance-requires
-distance-requires c κs = search needs
+mul-mulhi : tie.Need-mul-mulhi
+mul-mulhi c = search needs
+
+mulhi-requires : tie.Need-mulhi-requires
+mulhi-requires c κs = search needs
+
+near-one-requires : tie.Need-near-one-requires
+near-one-requires c κs = mask-lt (c .mulhi .result * 4 % 2 ^ 64) 57
+
+add-g : tie.Need-add-g
+add-g c =
+    let m = c .before .before .before .args .m in
+    fits-bits 64 tt (sum-lt _ _ _ (subst (λ (t : ℕ). t ≤ greatest) (sym (c .before .before .entry .ensures .1)) (entry-le (bitAnd (m / 2 ^ 55) 127) (mask-lt (m / 2 ^ 55) 7))) (c .near-one .ensures .1) (mask-lt (c .before .mulhi .result * 4 % 2 ^ 64) 57))
+
+-- before the test
+summed : (m : ℕ) {v d t r : ℕ} → v ≡ inverseOf (bitAnd (m / 2 ^ 55) 127) → d ≡ 2 * m * v / 2 ^ 64 → t ≡ getD lnTable (bitAnd (m / 2 ^ 55) 127) 0 → r ≡ nearOne (bitAnd (d * 4 % 2 ^ 64) 0x1ff_ffff_ffff_ffff)
+    → t + r ≡ getD lnTable (m / 2 ^ 55 % 128) 0 + nearOne (4 * hi (2 * m) (inverseOf (m / 2 ^ 55 % 128)) % 2 ^ 57)
+summed m {v} {d} {t} {r} ev ed et er = sum-is m (bitAnd (m / 2 ^ 55) 127) v d t (bitAnd (d * 4 % 2 ^ 64) 0x1ff_ffff_ffff_ffff) r (and-mask (m / 2 ^ 55) 7) ev ed et (and-mask (d * 4 % 2 ^ 64) 57) er
 
 returns : tie.Need-returns
-returns c = below _ _ (accepted _ _ _ _ (c .before .before .before .guess .ensures .0) (c .before .before .mant .ensures) (c .before .distance .ensures) (c .if1 .taken))
-
-bisection-requires : tie.Need-bisection-requires
-bisection-requires c κs = search needs
+unfolding lnMantOf
+returns c =
+    let d = c .before in
+    let m = d .before .before .before .args .m in
+    let e = summed m (d .before .before .entry .ensures .0) (d .before .mulhi .ensures) (d .before .before .entry .ensures .1) (d .near-one .ensures .0) in
+    (e ∙ sym (min-eq-left (under _ (subst (λ (x : ℕ). x < limit) e (c .if1 .taken)))), c .if1 .taken)
 
 returns-2 : tie.Need-returns-2
-returns-2 c = below _ _ (searched _ _ _ _ _ (c .before .before .before .before .guess .ensures .0) (c .before .before .before .mant .ensures) (c .before .before .distance .ensures) (c .before .if1 .left) (c .bisection .ensures))
+unfolding lnMantOf
+returns-2 c =
+    let d = c .before in
+    let m = d .before .before .before .args .m in
+    let e = summed m (d .before .before .entry .ensures .0) (d .before .mulhi .ensures) (d .before .before .entry .ensures .1) (d .near-one .ensures .0) in
+    (sym (min-eq-right (over _ (subst (λ (x : ℕ). limit ≤ x) e (c .if1 .left)))), lit< tt)
 
 pub ln-mant-spec : {M : Type 1} → statement M
-ln-mant-spec = tie.close (tie.spec guess-requires mant-requires distance-requires returns bisection-requires returns-2)
+ln-mant-spec = tie.close (tie.spec entry-requires mul-mulhi mulhi-requires near-one-requires add-g returns returns-2)
