@@ -14,7 +14,7 @@ use Rattle.series.proofs.Bounds.{Up, Lo, doubled, up-doubled, up-weaken}
 use Rattle.series.proofs.Scaling.{up-at, lo-at}
 use Rattle.exponential.specs.Mantissa.{hi}
 use Rattle.logarithm.specs.FixedPoint.{third, fourth, fifth, nearOne}
-use Rattle.logarithm.proofs.Words.{hi-le}
+use Rattle.logarithm.proofs.Words.{hi-le, under, sum-lt}
 
 -- ---- the series at the polynomial
 abbrev topE : ℕ → Expr → Expr → Expr
@@ -101,17 +101,17 @@ module _ (z : ℕ) (h : z < 2 ^ 57) where
   abbrev w : ℕ
   w = hi z z
 
-  abbrev e : ℕ
-  e = hi w fourth
+  abbrev k : ℕ
+  k = hi z third
 
   abbrev o : ℕ
-  o = hi w fifth
+  o = hi z fifth
 
-  abbrev k : ℕ
-  k = hi z (third + o)
+  abbrev s : ℕ
+  s = hi w (fourth - o)
 
   abbrev t : ℕ
-  t = hi w (2 ^ 63 + e - k)
+  t = hi w (2 ^ 63 - k + s)
 
   z-le : z * 128 ≤ Q
   z-le = omega arith
@@ -128,24 +128,36 @@ module _ (z : ℕ) (h : z < 2 ^ 57) where
       few : (w s : ℕ) → w * 2 ^ 64 ≤ s → s ≤ 2 ^ 57 * 2 ^ 57 → w * 2 ^ 14 ≤ 2 ^ 64
       few w s h k = omega arith
 
-  k-le : k ≤ 2 ^ 63 + e
-  k-le = less k z e (hi-le (sum o w z (hi-le (lit< tt) refl) w-le-z h) refl) h
+  k-le : k ≤ 2 ^ 63
+  k-le = le-trans (hi-le (lit< tt) refl) (le-trans (le-of-lt h) (lit≤ tt))
+
+  o-le : o ≤ fourth
+  o-le = le-trans (hi-le (lit< tt) refl) (le-trans (le-of-lt h) (lit≤ tt))
+
+  -- w times a difference, and w times what is taken away
+  whole : (a d : ℕ) → d ≤ a → w * (a - d) + w * d ≡ w * a
+  whole a d l = sym (mul-add w (a - d) d) ∙ ap (λ (x : ℕ). w * x) (sub-add-cancel l)
+
+  s-parts : w * (fourth - o) + w * o ≡ w * fourth
+  s-parts = whole fourth o o-le
+
+  t-parts : w * (2 ^ 63 - k + s) + w * k ≡ w * (2 ^ 63 + s)
+  t-parts = sym (mul-add w (2 ^ 63 - k + s) k) ∙ ap (λ (x : ℕ). w * x) (back k s k-le)
     where
-      sum : (o w z : ℕ) → o ≤ w → w ≤ z → z < 2 ^ 57 → third + o < 2 ^ 64
-      sum o w z h k l = omega arith
+      back : (k s : ℕ) → k ≤ 2 ^ 63 → 2 ^ 63 - k + s + k ≡ 2 ^ 63 + s
+      back k s h = omega arith
 
-      less : (k z e : ℕ) → k ≤ z → z < 2 ^ 57 → k ≤ 2 ^ 63 + e
-      less k z e h l = omega arith
+  s-low : s * Q + w * o ≤ w * fourth
+  s-low = le-trans (add-le-add (low w (fourth - o)) (le-refl (w * o))) (le-of-eq s-parts)
 
-  -- w (even - k) and w k
-  parts : w * (2 ^ 63 + e - k) + w * k ≡ w * (2 ^ 63 + e)
-  parts = sym (mul-add w (2 ^ 63 + e - k) k) ∙ ap (λ (x : ℕ). w * x) (sub-add-cancel k-le)
+  s-high : w * fourth ≤ s * Q + Q + w * o
+  s-high = le-trans (le-of-eq (sym s-parts)) (add-le-add (high w (fourth - o)) (le-refl (w * o)))
 
-  t-low : t * Q + w * k ≤ w * (2 ^ 63 + e)
-  t-low = le-trans (add-le-add (low w (2 ^ 63 + e - k)) (le-refl (w * k))) (le-of-eq parts)
+  t-low : t * Q + w * k ≤ w * (2 ^ 63 + s)
+  t-low = le-trans (add-le-add (low w (2 ^ 63 - k + s)) (le-refl (w * k))) (le-of-eq t-parts)
 
-  t-high : w * (2 ^ 63 + e) ≤ t * Q + Q + w * k
-  t-high = le-trans (le-of-eq (sym parts)) (add-le-add (high w (2 ^ 63 + e - k)) (le-refl (w * k)))
+  t-high : w * (2 ^ 63 + s) ≤ t * Q + Q + w * k
+  t-high = le-trans (le-of-eq (sym t-parts)) (add-le-add (high w (2 ^ 63 - k + s)) (le-refl (w * k)))
 
   abbrev minus : ℕ
   minus = 2 ^ 63 * z ^ 2 * Q ^ 3 + fourth * z ^ 4 * Q
@@ -155,39 +167,36 @@ module _ (z : ℕ) (h : z < 2 ^ 57) where
 
   cut-lo : Q ^ 5 * t + plus ≤ Q ^ 5 + minus
   cut-lo =
-      let Q = # (2 ^ 64) in let W = ν 1 in let E = ν 2 in let O = ν 3 in let K = ν 4 in let T = ν 5 in
-      poly-by (z ∷ w ∷ e ∷ o ∷ k ∷ t ∷ [])
-      ((T ⋆ Q ⊹ W ⋆ K ≼ W ⋆ (# (2 ^ 63) ⊹ E) by Q ↑ 4)
-      ∷ (E ⋆ Q ≼ W ⋆ # fourth by Q ↑ 3 ⋆ W)
+      let Q = # (2 ^ 64) in let W = ν 1 in let K = ν 2 in let O = ν 3 in let S = ν 4 in let T = ν 5 in
+      poly-by (z ∷ w ∷ k ∷ o ∷ s ∷ t ∷ [])
+      ((T ⋆ Q ⊹ W ⋆ K ≼ W ⋆ (# (2 ^ 63) ⊹ S) by Q ↑ 4)
+      ∷ (S ⋆ Q ⊹ W ⋆ O ≼ W ⋆ # fourth by Q ↑ 3 ⋆ W)
       ∷ (W ⋆ Q ≼ Z ⋆ Z by # (2 ^ 63) ⋆ Q ↑ 3 ⊹ # fourth ⋆ Q ⋆ (W ⋆ Q ⊹ Z ⋆ Z))
-      ∷ (Z ⋆ (# third ⊹ O) ≼ K ⋆ Q ⊹ Q by Q ↑ 3 ⋆ W)
-      ∷ (W ⋆ # fifth ≼ O ⋆ Q ⊹ Q by Q ↑ 2 ⋆ W ⋆ Z)
+      ∷ (Z ⋆ # third ≼ K ⋆ Q ⊹ Q by Q ↑ 3 ⋆ W)
+      ∷ (Z ⋆ # fifth ≼ O ⋆ Q ⊹ Q by Q ↑ 2 ⋆ W ⋆ W)
       ∷ (Z ⋆ Z ≼ W ⋆ Q ⊹ Q by # third ⋆ Q ↑ 2 ⋆ Z ⊹ # fifth ⋆ Z ⋆ (W ⋆ Q ⊹ Z ⋆ Z))
-      ∷ (Z ⋆ # 128 ≼ Q by # (2 ^ 57) ⋆ Q ⋆ Z ⋆ Z ⊹ # (2 ^ 50) ⋆ Q ↑ 2 ⋆ Z ⊹ # (2 ^ 58) ⋆ Q ↑ 2 ⋆ W ⊹ # (2 ^ 57) ⋆ Q ↑ 3)
-      ∷ (W ⋆ # (2 ^ 14) ≼ Q by # (2 ^ 51) ⋆ Q ↑ 3) ∷ [])
+      ∷ (Z ⋆ # 128 ≼ Q by # (2 ^ 57) ⋆ Q ⋆ Z ⋆ Z ⊹ # (2 ^ 50) ⋆ Q ↑ 2 ⋆ Z ⊹ # (2 ^ 57) ⋆ Q ↑ 2 ⋆ W ⊹ # (2 ^ 57) ⋆ Q ↑ 3)
+      ∷ (W ⋆ # (2 ^ 14) ≼ Q by # (2 ^ 50) ⋆ Q ↑ 2 ⋆ W ⊹ # (2 ^ 51) ⋆ Q ↑ 3) ∷ [])
       (# 1) (Q ↑ 5 ⋆ T ⊹ (# third ⋆ Z ↑ 3 ⋆ Q ↑ 2 ⊹ # fifth ⋆ Z ↑ 5)) (Q ↑ 5 ⊹ (# (2 ^ 63) ⋆ Z ↑ 2 ⋆ Q ↑ 3 ⊹ # fourth ⋆ Z ↑ 4 ⋆ Q)) tt
-      t-low (low w fourth) (low z z) (high z (third + o)) (high w fifth) (high z z) z-le w-le
+      t-low s-low (low z z) (high z third) (high z fifth) (high z z) z-le w-le
 
   cut-up : minus ≤ Q ^ 5 * (t + 2) + plus
   cut-up =
-      let Q = # (2 ^ 64) in let W = ν 1 in let E = ν 2 in let O = ν 3 in let K = ν 4 in let T = ν 5 in
-      poly-by (z ∷ w ∷ e ∷ o ∷ k ∷ t ∷ [])
-      ((W ⋆ (# (2 ^ 63) ⊹ E) ≼ T ⋆ Q ⊹ Q ⊹ W ⋆ K by Q ↑ 4)
-      ∷ (W ⋆ # fourth ≼ E ⋆ Q ⊹ Q by Q ↑ 3 ⋆ W)
+      let Q = # (2 ^ 64) in let W = ν 1 in let K = ν 2 in let O = ν 3 in let S = ν 4 in let T = ν 5 in
+      poly-by (z ∷ w ∷ k ∷ o ∷ s ∷ t ∷ [])
+      ((W ⋆ (# (2 ^ 63) ⊹ S) ≼ T ⋆ Q ⊹ Q ⊹ W ⋆ K by Q ↑ 4)
+      ∷ (W ⋆ # fourth ≼ S ⋆ Q ⊹ Q ⊹ W ⋆ O by Q ↑ 3 ⋆ W)
       ∷ (Z ⋆ Z ≼ W ⋆ Q ⊹ Q by # (2 ^ 63) ⋆ Q ↑ 3 ⊹ # fourth ⋆ Q ⋆ (W ⋆ Q ⊹ Z ⋆ Z))
-      ∷ (K ⋆ Q ≼ Z ⋆ (# third ⊹ O) by Q ↑ 3 ⋆ W)
-      ∷ (O ⋆ Q ≼ W ⋆ # fifth by Q ↑ 2 ⋆ W ⋆ Z)
+      ∷ (K ⋆ Q ≼ Z ⋆ # third by Q ↑ 3 ⋆ W)
+      ∷ (O ⋆ Q ≼ Z ⋆ # fifth by Q ↑ 2 ⋆ W ⋆ W)
       ∷ (W ⋆ Q ≼ Z ⋆ Z by # third ⋆ Q ↑ 2 ⋆ Z ⊹ # fifth ⋆ Z ⋆ (W ⋆ Q ⊹ Z ⋆ Z))
       ∷ (Z ⋆ # 128 ≼ Q by # (2 ^ 57) ⋆ Q ↑ 2 ⋆ Z ⊹ # (2 ^ 50) ⋆ Q ↑ 3)
       ∷ (W ⋆ # (2 ^ 14) ≼ Q by # (2 ^ 51) ⋆ Q ↑ 3) ∷ [])
       (# 1) (# (2 ^ 63) ⋆ Z ↑ 2 ⋆ Q ↑ 3 ⊹ # fourth ⋆ Z ↑ 4 ⋆ Q) (Q ↑ 5 ⋆ (T ⊹ # 2) ⊹ (# third ⋆ Z ↑ 3 ⋆ Q ↑ 2 ⊹ # fifth ⋆ Z ↑ 5)) tt
-      t-high (high w fourth) (high z z) (low z (third + o)) (low w fifth) (low z z) z-le w-le
+      t-high s-high (high z z) (low z third) (low z fifth) (low z z) z-le w-le
 
   t-le : t ≤ z
-  t-le = le-trans (hi-le (under e k w z (hi-le (lit< tt) refl) w-le-z h) refl) w-le-z
-    where
-      under : (e k w z : ℕ) → e ≤ w → w ≤ z → z < 2 ^ 57 → 2 ^ 63 + e - k < 2 ^ 64
-      under e k w z h l m = omega arith
+  t-le = le-trans (hi-le (sum-lt k s w z (hi-le (under o) refl) w-le-z h) refl) w-le-z
 
 -- p times 2^64 b^4 between the neighbours of z - t; F for 2^64 b^4
 join-lo : (p X Y F B t u z : ℕ) → u + t ≡ z → p + X ≡ F * z + Y → F * t + Y ≤ F + X → p * B ≤ (u + 1) * (B * F)

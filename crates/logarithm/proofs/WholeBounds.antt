@@ -75,7 +75,7 @@ module _ (m n : ℕ) (l : 2 ^ 62 ≤ m) (k : m < 2 ^ 63) (N : n ≤ 1074) where
   g = lnMantOf m
 
   G : g < limit
-  G = ln-mant-lt m
+  G = ln-mant-lt m l k
 
   abbrev t : ℕ
   t = twosOf n

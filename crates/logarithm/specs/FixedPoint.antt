@@ -1,5 +1,5 @@
 -- The logarithm of a number from 1 up to 2 in fixed point, on natural numbers: a table and a polynomial.
-use Prim.Native.Nat.{ℕ, _+_, _-_, _*_, _/_, _%_, _^_, min}
+use Prim.Native.Nat.{ℕ, _+_, _-_, _*_, _/_, _%_, _^_}
 use lib.ListN.{getD}
 use Rattle.exponential.specs.Mantissa.{hi}
 use Rattle.logarithm.specs.LnTable.{lnTable, inverseOf}
@@ -17,18 +17,18 @@ fifth = 0x329b333333333333
 
 -- ln(1 + z) for z below 1/128, z and the result in units of 2^-64
 unfoldable pub nearOne : ℕ → ℕ
-nearOne z = let w = hi z z in z - hi w (2 ^ 63 + hi w fourth - hi z (third + hi w fifth))
+nearOne z = let w = hi z z in z - hi w (2 ^ 63 - hi z third + hi w (fourth - hi z fifth))
 
 -- ln 2 in units of 2^-64, from above: 2048 times 6243314768165360
 abbrev pub limit : ℕ
 limit = 12786308645202657280
 
--- ln(m / 2^62) in units of 2^-64, for m from 2^62 up to 2^63: m / 2^62 = (1 + j / 128)(1 + z)
+-- ln(m / 2^62) in units of 2^-64, for m from 2^62 up to 2^63: m / 2^62 = (1 + j / 128)(1 + z), and 1 + z is 2^64 + z units, of which the rest is taken
 unfoldable pub lnMantOf : ℕ → ℕ
 unfolding nearOne
 lnMantOf m =
     let j = m / 2 ^ 55 % 128 in
-    min (getD lnTable j 0 + nearOne (4 * hi (2 * m) (inverseOf j) % 2 ^ 57)) (limit - 1)
+    getD lnTable j 0 + nearOne (8 * hi m (inverseOf j) % 2 ^ 64)
 
 abbrev pub distanceOf : ℕ → ℕ → ℕ
 distanceOf a b = (a - b) + (b - a)

@@ -6,7 +6,7 @@ use Prim.Native.Nat.{ℕ, _+_, _/_, _^_}
 abbrev pub inverseOf : ℕ → ℕ
 inverseOf j = (2 ^ 70 + 127 + j) / (128 + j)
 
--- ln(1 + j / 128) in units of 2^-64, rounded down
+-- ln(1 + j / 128) in units of 2^-64, rounded down; the last less 2^15: the polynomial may be 2^14 too high, and the sum stays below ln 2
 abbrev pub lnTable : List ℕ
 lnTable =
     0 ∷
@@ -136,5 +136,5 @@ lnTable =
     0xad6a0261acf967d9 ∷
     0xae6d8ee360bb2467 ∷
     0xaf70154920b3ab86 ∷
-    0xb07197a23c46c653 ∷
+    0xb07197a23c464653 ∷
     []

@@ -8,7 +8,142 @@ ghost use Rattle.logarithm.specs.FixedPoint.{nearOne, limit, distanceOf,
 ghost use Rattle.logarithm.specs.Logarithm.{logAbove, logBelow, logBits, logOf, roundedOf, lnFrom, lnOf, ln1pOf};
 use wide::mulhi;
 
-// 1 / (1 + j / 128) in units of 2^-63, rounded up, and ln(1 + j / 128) in units of 2^-64, rounded down.
+// ln(1 + z), z and the result in units of 2^-64. The products beside each other do not wait for one another.
+fn near_one(z: u64) -> u64
+    requires { ⌜ z < 2 ^ 57 ⌝ }
+    ensures { λ r. ⌜ r ≡ nearOne z ⌝ }
+{
+    let w = mulhi(z, z);
+    let low = 0x8000000000000000 - mulhi(z, 0x5555555555555555);
+    let high = 0x3fff78a000000000 - mulhi(z, 0x329b333333333333);
+    z - mulhi(w, low + mulhi(w, high))
+}
+
+// The logarithm of m / 2^62, from 1 up to 2, in units of 2^-64. The upper digit of the quotient, which is 1, is shifted out.
+fn ln_mant(m: u64) -> u64
+    requires { ⌜ (2 ^ 62 ≤ m) × (m < 2 ^ 63) ⌝ }
+    ensures { λ r. ⌜ (r ≡ lnMantOf m) × (r < limit) ⌝ }
+{
+    let row = entry((m >> 55) & 127);
+    let log = row.log;
+    log + near_one(mulhi(m, row.inverse) << 3)
+}
+
+fn distance(a: u64, b: u64) -> u64
+    ensures { λ r. ⌜ r ≡ distanceOf a b ⌝ }
+{
+    if a < b { b - a } else { a - b }
+}
+
+// n ln 2 in units of 2^-53, rounded up.
+fn twos(n: u64) -> u64
+    requires { ⌜ n ≤ 1100 ⌝ }
+    ensures { λ r. ⌜ r ≡ twosOf n ⌝ }
+{
+    n * 6243314768165360 - n * 1621 / 2048
+}
+
+// The natural logarithm of a base as pow_of takes it, in units of 2^-53.
+pub enum Log {
+    // of a NaN, a negative number or an infinity
+    Undefined,
+    // of a zero
+    BaseZero,
+    // of 1
+    BaseOne,
+    // of a number above 1
+    Above(u64),
+    // of a number below 1, its size
+    Below(u64),
+}
+
+// The logarithm of m / 2^62 * 2^n, or of m / 2^62 / 2^n where it is below 1.
+fn log_scaled(m: u64, n: u64, below: bool) -> Log
+    requires { ⌜ (2 ^ 62 ≤ m) × (m < 2 ^ 63) × (n ≤ 1100) × (below ≡ true → 0 < n) ⌝ }
+    ensures { λ r. ⌜ r ≡ cond below (logBelow m n) (logAbove m n) ⌝ }
+{
+    let t = twos(n);
+    let l = ln_mant(m) / 2048;
+    if below {
+        return Log::Below(t - l);
+    }
+    Log::Above(t + l)
+}
+
+// The logarithm of the positive finite number whose pattern is bits.
+fn log_bits(bits: u64) -> Log
+    requires { ⌜ (0 < bits) × (bits < 2047 * 2 ^ 52) ⌝ }
+    ensures { λ r. ⌜ r ≡ logBits bits ⌝ }
+{
+    if bits < 0x10_0000_0000_0000 {
+        let z = u64::leading_zeros(bits) as u64;
+        return log_scaled(bits << (z - 1), 1011 + z, true);
+    }
+    let m = ((bits & 0xf_ffff_ffff_ffff) + 0x10_0000_0000_0000) * 1024;
+    let field = bits >> 52;
+    log_scaled(m, distance(field, 1023), field < 1023)
+}
+
+// The logarithm of a base.
+pub fn log_of(b: f64) -> Log
+    ensures { λ r. ⌜ r ≡ logOf b ⌝ }
+{
+    if b > 0.0 {
+        if b < 1.0 / 0.0 {
+            if b == 1.0 {
+                return Log::BaseOne;
+            }
+            return log_bits(f64::to_bits(b));
+        }
+        return Log::Undefined;
+    }
+    if b == 0.0 {
+        return Log::BaseZero;
+    }
+    Log::Undefined
+}
+
+// v * 2^-53, rounded once.
+fn rounded(v: u64) -> f64
+    ensures { λ r. ⌜ r ≡ roundedOf v ⌝ }
+{
+    std::num::nearest_u64_to_f64(v) * 0.00000000000000011102230246251565
+}
+
+// The natural logarithm as a float; NaN where there is none.
+fn ln_from(l: Log) -> f64
+    ensures { λ r. ⌜ r ≡ lnFrom l ⌝ }
+{
+    match l {
+        Log::Undefined => 0.0 / 0.0,
+        Log::BaseZero => 0.0 / 0.0,
+        Log::BaseOne => 0.0,
+        Log::Above(v) => rounded(v),
+        Log::Below(v) => -rounded(v),
+    }
+}
+
+// The natural logarithm of a positive normal number; NaN otherwise.
+pub fn ln(x: f64) -> f64
+    ensures { λ r. ⌜ r ≡ lnOf x ⌝ }
+{
+    if x >= 2.2250738585072014e-308 {
+        return ln_from(log_of(x));
+    }
+    0.0 / 0.0
+}
+
+// ln(1 + a) for a finite and not negative; NaN otherwise.
+pub fn ln_1p(a: f64) -> f64
+    ensures { λ r. ⌜ r ≡ ln1pOf a ⌝ }
+{
+    if a >= 0.0 {
+        return ln(1.0 + a);
+    }
+    0.0 / 0.0
+}
+
+// 1 / (1 + j / 128) in units of 2^-63, rounded up, and ln(1 + j / 128) in units of 2^-64, rounded down, the last less 2^15.
 struct Row {
     inverse: u64,
     log: u64,
@@ -530,157 +665,7 @@ fn entry(j: u64) -> Row
         },
         _ => Row {
             inverse: 0x4040404040404041,
-            log: 0xb07197a23c46c653,
+            log: 0xb07197a23c464653,
         },
     }
-}
-
-// c + w * q, where w and q are fractions of 2^64.
-fn step(c: u64, w: u64, q: u64) -> u64
-    requires { ⌜ (c ≤ 2 ^ 63) × (w < 2 ^ 60) ⌝ }
-    ensures { λ r. ⌜ (r ≡ c + w * q / 2 ^ 64) × (r < 2 ^ 64) ⌝ }
-{
-    c + mulhi(w, q)
-}
-
-// ln(1 + z), z and the result in units of 2^-64.
-fn near_one(z: u64) -> u64
-    requires { ⌜ z < 2 ^ 57 ⌝ }
-    ensures { λ r. ⌜ (r ≡ nearOne z) × (r ≤ z) ⌝ }
-{
-    let w = mulhi(z, z);
-    let even = step(0x8000000000000000, w, 0x3fff78a000000000);
-    let odd = step(0x5555555555555555, w, 0x329b333333333333);
-    z - mulhi(w, even - mulhi(z, odd))
-}
-
-// The logarithm of m / 2^62, from 1 up to 2, in units of 2^-64.
-fn ln_mant(m: u64) -> u64
-    requires { ⌜ m < 2 ^ 63 ⌝ }
-    ensures { λ r. ⌜ (r ≡ lnMantOf m) × (r < limit) ⌝ }
-{
-    let j = (m >> 55) & 127;
-    let row = entry(j);
-    let log = row.log;
-    let c = mulhi(2 * m, row.inverse);
-    let g = log + near_one((c << 2) & 0x1ff_ffff_ffff_ffff);
-    if g < 12786308645202657280 {
-        g
-    } else {
-        12786308645202657279
-    }
-}
-
-fn distance(a: u64, b: u64) -> u64
-    ensures { λ r. ⌜ r ≡ distanceOf a b ⌝ }
-{
-    if a < b { b - a } else { a - b }
-}
-
-// n ln 2 in units of 2^-53, rounded up.
-fn twos(n: u64) -> u64
-    requires { ⌜ n ≤ 1100 ⌝ }
-    ensures { λ r. ⌜ r ≡ twosOf n ⌝ }
-{
-    n * 6243314768165360 - n * 1621 / 2048
-}
-
-// The natural logarithm of a base as pow_of takes it, in units of 2^-53.
-pub enum Log {
-    // of a NaN, a negative number or an infinity
-    Undefined,
-    // of a zero
-    BaseZero,
-    // of 1
-    BaseOne,
-    // of a number above 1
-    Above(u64),
-    // of a number below 1, its size
-    Below(u64),
-}
-
-// The logarithm of m / 2^62 * 2^n, or of m / 2^62 / 2^n where it is below 1.
-fn log_scaled(m: u64, n: u64, below: bool) -> Log
-    requires { ⌜ (m < 2 ^ 63) × (n ≤ 1100) × (below ≡ true → 0 < n) ⌝ }
-    ensures { λ r. ⌜ r ≡ cond below (logBelow m n) (logAbove m n) ⌝ }
-{
-    let t = twos(n);
-    let l = ln_mant(m) / 2048;
-    if below {
-        return Log::Below(t - l);
-    }
-    Log::Above(t + l)
-}
-
-// The logarithm of the positive finite number whose pattern is bits.
-fn log_bits(bits: u64) -> Log
-    requires { ⌜ (0 < bits) × (bits < 2047 * 2 ^ 52) ⌝ }
-    ensures { λ r. ⌜ r ≡ logBits bits ⌝ }
-{
-    if bits < 0x10_0000_0000_0000 {
-        let z = u64::leading_zeros(bits) as u64;
-        return log_scaled(bits << (z - 1), 1011 + z, true);
-    }
-    let m = ((bits & 0xf_ffff_ffff_ffff) + 0x10_0000_0000_0000) * 1024;
-    let field = bits >> 52;
-    log_scaled(m, distance(field, 1023), field < 1023)
-}
-
-// The logarithm of a base.
-pub fn log_of(b: f64) -> Log
-    ensures { λ r. ⌜ r ≡ logOf b ⌝ }
-{
-    if b > 0.0 {
-        if b < 1.0 / 0.0 {
-            if b == 1.0 {
-                return Log::BaseOne;
-            }
-            return log_bits(f64::to_bits(b));
-        }
-        return Log::Undefined;
-    }
-    if b == 0.0 {
-        return Log::BaseZero;
-    }
-    Log::Undefined
-}
-
-// v * 2^-53, rounded once.
-fn rounded(v: u64) -> f64
-    ensures { λ r. ⌜ r ≡ roundedOf v ⌝ }
-{
-    std::num::nearest_u64_to_f64(v) * 0.00000000000000011102230246251565
-}
-
-// The natural logarithm as a float; NaN where there is none.
-fn ln_from(l: Log) -> f64
-    ensures { λ r. ⌜ r ≡ lnFrom l ⌝ }
-{
-    match l {
-        Log::Undefined => 0.0 / 0.0,
-        Log::BaseZero => 0.0 / 0.0,
-        Log::BaseOne => 0.0,
-        Log::Above(v) => rounded(v),
-        Log::Below(v) => -rounded(v),
-    }
-}
-
-// The natural logarithm of a positive normal number; NaN otherwise.
-pub fn ln(x: f64) -> f64
-    ensures { λ r. ⌜ r ≡ lnOf x ⌝ }
-{
-    if x >= 2.2250738585072014e-308 {
-        return ln_from(log_of(x));
-    }
-    0.0 / 0.0
-}
-
-// ln(1 + a) for a finite and not negative; NaN otherwise.
-pub fn ln_1p(a: f64) -> f64
-    ensures { λ r. ⌜ r ≡ ln1pOf a ⌝ }
-{
-    if a >= 0.0 {
-        return ln(1.0 + a);
-    }
-    0.0 / 0.0
 }

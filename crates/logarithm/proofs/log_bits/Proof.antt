@@ -18,6 +18,9 @@ use Rattle.logarithm.proofs.Digits.{lead}
 use Rattle.logarithm.proofs.log_bits.Statement.{statement}
 use Rattle.logarithm.proofs.log_bits.Tie as tie
 
+from : (x : ℕ) → 2 ^ 62 ≤ (x + 2 ^ 52) * 1024
+from x = omega arith
+
 digits : (x : ℕ) → x < 2 ^ 52 → (x + 2 ^ 52) * 1024 < 2 ^ 63
 digits x h = omega arith
 
@@ -64,7 +67,7 @@ add-log-scaled c = fits-bits 64 tt (sum _ (leading-le 64 (c .before .args .bits)
 log-scaled-requires : tie.Need-log-scaled-requires
 log-scaled-requires c κs =
     let l = lead (c .before .args .bits) (c .before .pre .0) (c .if1 .taken) in
-    (subst (λ (x : ℕ). x < 2 ^ 63) (sym (l .same)) (l .below), high _ (l .high), λ e. low _)
+    (subst (λ (x : ℕ). 2 ^ 62 ≤ x) (sym (l .same)) (l .from), subst (λ (x : ℕ). x < 2 ^ 63) (sym (l .same)) (l .below), high _ (l .high), λ e. low _)
   where
     low : (z : ℕ) → 0 < 1011 + z
     low z = omega arith
@@ -100,7 +103,7 @@ log-scaled-requires-2 c κs =
     let d = c .before .before in
     let f = d .args .bits / 2 ^ 52 in
     let n = sym (c .distance .ensures) in
-    (digits _ (mask-lt (d .args .bits) 52), subst (λ (x : ℕ). x ≤ 1100) n (few f (field _ (d .pre .1))), λ e. subst (λ (x : ℕ). 0 < x) n (below f e))
+    (from _, digits _ (mask-lt (d .args .bits) 52), subst (λ (x : ℕ). x ≤ 1100) n (few f (field _ (d .pre .1))), λ e. subst (λ (x : ℕ). 0 < x) n (below f e))
   where
     field : (b : ℕ) → b < 2047 * 2 ^ 52 → b / 2 ^ 52 < 2047
     field b h = omega arith

@@ -20,7 +20,7 @@ ln-mant-requires c κs = search needs
 sub-t8 : tie.Need-sub-t8
 sub-t8 c =
     let d = c .before .before .before in
-    less _ _ _ (d .pre .2 (c .if1 .taken)) (d .pre .1) (c .before .before .twos .ensures) (c .before .ln-mant .ensures .1)
+    less _ _ _ (d .pre .3 (c .if1 .taken)) (d .pre .2) (c .before .before .twos .ensures) (c .before .ln-mant .ensures .1)
   where
     less : (n t r : ℕ) → 0 < n → n ≤ 1100 → t ≡ twosOf n → r < limit → r / 2048 ≤ t
     less n t r g h e k = omega arith
@@ -32,7 +32,7 @@ returns c = (λ i. Below (c .before .before .twos .ensures i - c .before .ln-man
 add-t6 : tie.Need-add-t6
 add-t6 c =
     let d = c .before .before .before in
-    fits-bits 64 tt (sum _ _ _ (d .pre .1) (c .before .before .twos .ensures) (c .before .ln-mant .ensures .1))
+    fits-bits 64 tt (sum _ _ _ (d .pre .2) (c .before .before .twos .ensures) (c .before .ln-mant .ensures .1))
   where
     sum : (n t r : ℕ) → n ≤ 1100 → t ≡ twosOf n → r < limit → t + r / 2048 < 2 ^ 64
     sum n t r h e k = omega arith
