@@ -6,7 +6,7 @@ use Prim.Native.Nat.{ℕ, _+_, _/_, _^_}
 abbrev pub inverseOf : ℕ → ℕ
 inverseOf j = (2 ^ 70 + 127 + j) / (128 + j)
 
--- ln(1 + j / 128) in units of 2^-64, rounded down; the last less 2^15: the polynomial may be 2^14 too high, and the sum stays below ln 2
+-- ln(1 + j / 128) in units of 2^-64, rounded down; the last less 2^15, so that the sum with the polynomial, which may be 2^14 too high, stays below ln 2
 abbrev pub lnTable : List ℕ
 lnTable =
     0 ∷

@@ -4,11 +4,11 @@ ghost use mathlib.Core.Bool.{true, cond};
 ghost use Prim.Native.Nat.{_+_, _-_, _*_, _/_, _%_, _^_, _≤_, _<_};
 ghost use lib.ListN.{getD};
 ghost use Rattle.logarithm.specs.LnTable.{lnTable, inverseOf};
-ghost use Rattle.logarithm.specs.FixedPoint.{nearOne, limit, distanceOf, lnMantOf, twosOf};
-ghost use Rattle.logarithm.specs.Logarithm.{logAbove, logBelow, logBits, logOf, roundedOf, lnFrom, lnOf, ln1pOf};
+ghost use Rattle.logarithm.specs.FixedPoint.{nearOne, limit, lnMantOf, twosOf};
+ghost use Rattle.logarithm.specs.Logarithm.{logBits, logOf, roundedOf, lnFrom, lnOf, ln1pOf};
 use wide::mulhi;
 
-// ln(1 + z), z and the result in units of 2^-64. The products beside each other do not wait for one another.
+// ln(1 + z), z and the result in units of 2^-64. The first three products do not wait for one another.
 fn near_one(z: u64) -> u64
     requires { ⌜ z < 2 ^ 57 ⌝ }
     ensures { λ r. ⌜ r ≡ nearOne z ⌝ }
@@ -19,7 +19,7 @@ fn near_one(z: u64) -> u64
     z - mulhi(w, low + mulhi(w, high))
 }
 
-// The logarithm of m / 2^62, from 1 up to 2, in units of 2^-64. The upper digit of the quotient, which is 1, is shifted out.
+// The logarithm of m / 2^62, from 1 up to 2, in units of 2^-64. The quotient's first digit, which is 1, is shifted out.
 fn ln_mant(m: u64) -> u64
     requires { ⌜ (2 ^ 62 ≤ m) × (m < 2 ^ 63) ⌝ }
     ensures { λ r. ⌜ (r ≡ lnMantOf m) × (r < limit) ⌝ }
@@ -27,12 +27,6 @@ fn ln_mant(m: u64) -> u64
     let row = entry((m >> 55) & 127);
     let log = row.log;
     log + near_one(mulhi(m, row.inverse) << 3)
-}
-
-fn distance(a: u64, b: u64) -> u64
-    ensures { λ r. ⌜ r ≡ distanceOf a b ⌝ }
-{
-    if a < b { b - a } else { a - b }
 }
 
 // n ln 2 in units of 2^-53, rounded up.
@@ -57,31 +51,37 @@ pub enum Log {
     Below(u64),
 }
 
-// The logarithm of m / 2^62 * 2^n, or of m / 2^62 / 2^n where it is below 1.
-fn log_scaled(m: u64, n: u64, below: bool) -> Log
-    requires { ⌜ (2 ^ 62 ≤ m) × (m < 2 ^ 63) × (n ≤ 1100) × (below ≡ true → 0 < n) ⌝ }
-    ensures { λ r. ⌜ r ≡ cond below (logBelow m n) (logAbove m n) ⌝ }
+// The logarithm of m / 2^62 * 2^n, in units of 2^-53.
+fn log_above(m: u64, n: u64) -> u64
+    requires { ⌜ (2 ^ 62 ≤ m) × (m < 2 ^ 63) × (n ≤ 1100) ⌝ }
+    ensures { λ r. ⌜ r ≡ twosOf n + lnMantOf m / 2048 ⌝ }
 {
-    let t = twos(n);
-    let l = ln_mant(m) / 2048;
-    if below {
-        return Log::Below(t - l);
-    }
-    Log::Above(t + l)
+    twos(n) + ln_mant(m) / 2048
 }
 
-// The logarithm of the positive finite number whose pattern is bits.
+// The size of the logarithm of m / 2^62 / 2^n.
+fn log_below(m: u64, n: u64) -> u64
+    requires { ⌜ (2 ^ 62 ≤ m) × (m < 2 ^ 63) × (0 < n) × (n ≤ 1100) ⌝ }
+    ensures { λ r. ⌜ r ≡ twosOf n - lnMantOf m / 2048 ⌝ }
+{
+    twos(n) - ln_mant(m) / 2048
+}
+
+// The logarithm of the positive finite number whose pattern is bits. The functions below answer a number, not a Log, which would go through memory.
 fn log_bits(bits: u64) -> Log
     requires { ⌜ (0 < bits) × (bits < 2047 * 2 ^ 52) ⌝ }
     ensures { λ r. ⌜ r ≡ logBits bits ⌝ }
 {
     if bits < 0x10_0000_0000_0000 {
         let z = u64::leading_zeros(bits) as u64;
-        return log_scaled(bits << (z - 1), 1011 + z, true);
+        return Log::Below(log_below(bits << (z - 1), 1011 + z));
     }
     let m = ((bits & 0xf_ffff_ffff_ffff) + 0x10_0000_0000_0000) * 1024;
     let field = bits >> 52;
-    log_scaled(m, distance(field, 1023), field < 1023)
+    if field < 1023 {
+        return Log::Below(log_below(m, 1023 - field));
+    }
+    Log::Above(log_above(m, field - 1023))
 }
 
 // The logarithm of a base.
