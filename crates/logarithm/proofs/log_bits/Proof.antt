@@ -2,7 +2,7 @@
 use mathlib.Core.Path.{_≡_, refl, sym, ap, _∙_, subst}
 use Prim.Native.Nat.{ℕ, _+_, _-_, _*_, _/_, _^_, _≤_, _<_}
 use native.Mathlib.Omega.{arith}
-use native.Mathlib.Nat.{le-trans, le-of-lt}
+use native.Mathlib.Nat.{le-trans}
 use lib.Dec.{lit≤}
 use lib.Bits.{and-mask, mask-lt}
 use lib.Count.{leadingZeros, leading-le}
@@ -72,7 +72,7 @@ mul-m c = fits-bits 64 tt (product _ (mask-lt (c .before .args .bits) 52))
     product x h = omega arith
 
 sub-log-below-2 : tie.Need-sub-log-below-2
-sub-log-below-2 c = le-of-lt (c .if2 .taken)
+sub-log-below-2 c = let h = c .if2 .taken in omega (arith, h)
 
 log-below-requires-2 : tie.Need-log-below-requires-2
 log-below-requires-2 c κs = (from _, digits _ (mask-lt (c .before .before .args .bits) 52), some _ (c .if2 .taken), few _)
