@@ -1,10 +1,10 @@
 pub mod Arms
 pub mod Words
 pub mod Tables
-pub mod Halving
+pub mod NearOne
 pub mod Digits
 pub mod Patterns
-pub mod Confirmed
+pub mod LnMant
 pub mod Multiples
 pub mod WholeBounds
 pub mod Reflects

@@ -11,7 +11,7 @@ one-pow : (k : ℕ) → 1 ^ k ≡ 1
 one-pow zero = pow-zero 1
 one-pow (suc k) = pow-succ' 1 k ∙ one-mul (1 ^ k) ∙ one-pow k
 
-two-lo : Lo (Λ + 3) (2 ^ 64) 2 1
+pub two-lo : Lo (Λ + 3) (2 ^ 64) 2 1
 two-lo = lo-weaken (lit< tt) (lit≤ tt) (lo-add (lit< tt) lo-two (one-plus 3 (2 ^ 64)))
 
 pub twos-up : (n : ℕ) → Up (n * Λ) (2 ^ 64) (2 ^ n) 1

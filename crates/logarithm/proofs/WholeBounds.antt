@@ -8,8 +8,7 @@ use Rattle.series.proofs.Bounds.{Up, Lo, up-weaken, lo-weaken, up-mono, lo-mono
 use Rattle.series.proofs.Differences.{up-sub, lo-sub, one-plus}
 use Rattle.exponential.proofs.LnTwo.{Λ}
 use Rattle.logarithm.specs.FixedPoint.{lnMantOf, twosOf, limit}
-use Rattle.logarithm.proofs.Halving.{ln-mant-lt}
-use Rattle.logarithm.proofs.Confirmed.{ln-lo, ln-up}
+use Rattle.logarithm.proofs.LnMant.{ln-mant-lt, ln-lo, ln-up}
 use Rattle.logarithm.proofs.Multiples.{twos-up, twos-lo}
 
 abbrev pub B : ℕ
@@ -76,7 +75,7 @@ module _ (m n : ℕ) (l : 2 ^ 62 ≤ m) (k : m < 2 ^ 63) (N : n ≤ 1074) where
   g = lnMantOf m
 
   G : g < limit
-  G = ln-mant-lt m
+  G = ln-mant-lt m l k
 
   abbrev t : ℕ
   t = twosOf n

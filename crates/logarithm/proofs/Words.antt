@@ -1,13 +1,17 @@
 -- Sizes of upper words of products. Assumes nothing.
 use mathlib.Core.Path.{_≡_, sym, subst}
-use Prim.Native.Nat.{ℕ, _*_, _/_, _^_, _<_}
-use native.Mathlib.Nat.{lt-of-le-of-lt, le-of-lt, mul-le-mul-left, mul-lt-mul-of-pos-right}
+use Prim.Native.Nat.{ℕ, _+_, _-_, _*_, _/_, _^_, _≤_, _<_}
+use native.Mathlib.Nat.{le-trans, le-of-eq, le-of-lt, mul-comm, mul-le-mul-left, div-le-of-le-mul}
 use native.Mathlib.Omega.{arith}
-use lib.Dec.{lit<}
+use Rattle.logarithm.specs.FixedPoint.{fourth}
 
--- the upper word of a product with a number below 2^60
-pub hi-lt : {z q r : ℕ} → z < 2 ^ 60 → q < 2 ^ 64 → r ≡ z * q / 2 ^ 64 → r < 2 ^ 60
-hi-lt {z} {q} {r} h k e = subst (λ (x : ℕ). x < 2 ^ 60) (sym e) (out (z * q) (lt-of-le-of-lt (mul-le-mul-left z (le-of-lt k)) (mul-lt-mul-of-pos-right h (lit< tt))))
-  where
-    out : (n : ℕ) → n < 2 ^ 60 * 2 ^ 64 → n / 2 ^ 64 < 2 ^ 60
-    out n h = omega arith
+-- the upper word of a product is at most the factor
+pub hi-le : {z q r : ℕ} → q < 2 ^ 64 → r ≡ z * q / 2 ^ 64 → r ≤ z
+hi-le {z} {q} {r} k e = subst (λ (x : ℕ). x ≤ z) (sym e) (div-le-of-le-mul (2 ^ 64) {m = z * q} {n = z} (le-trans (mul-le-mul-left z (le-of-lt k)) (le-of-eq (mul-comm z (2 ^ 64)))))
+
+-- the factors of the polynomial's last two products
+pub under : (k : ℕ) → fourth - k < 2 ^ 64
+under k = omega arith
+
+pub sum-lt : (k s w z : ℕ) → s ≤ w → w ≤ z → z < 2 ^ 57 → 2 ^ 63 - k + s < 2 ^ 64
+sum-lt k s w z h l m = omega arith

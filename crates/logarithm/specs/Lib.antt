@@ -1,3 +1,4 @@
+pub mod LnTable
 pub mod FixedPoint
 pub mod Logarithm
 pub mod Accuracy
