@@ -5,7 +5,6 @@ pub mod Steps
 pub mod Polynomial
 pub mod Mantissa
 pub mod TableLaws
-pub mod Successor
 pub mod Whole
 pub mod Patterns
 pub mod Assembling

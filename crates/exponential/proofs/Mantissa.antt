@@ -12,7 +12,6 @@ use Rattle.exponential.specs.Mantissa.{hi, minusOne, mantOf, expTable}
 use Rattle.series.proofs.Product.{bot-pos}
 use Rattle.series.proofs.Bounds.{Up, Lo, doubled, up-doubled, up-weaken, lo-weaken, up-add, lo-add}
 use Rattle.exponential.proofs.Polynomial.{minusOne-lt, small-lo, small-up}
-use Rattle.exponential.proofs.Steps.{halves-lt}
 use Rattle.exponential.proofs.Table.{both, every, at, both-left, both-right}
 
 abbrev B : ℕ
@@ -59,9 +58,6 @@ module _ (j : ℕ) (h : j < 178) where
     where
       few : (j : ℕ) → j < 178 → 2 * (j * 2 ^ 56) ≤ 24 * 2 ^ 64
       few j h = omega arith
-
-pub table-lt : (j : ℕ) → j < 178 → getD expTable j 0 < 2 ^ 64
-table-lt j h = entry-lt j h
 
 -- ---- the product of the two
 abbrev made : ℕ → ℕ → ℕ
@@ -139,11 +135,3 @@ mant-ge r h = le-trans (half (getD expTable (r / 2 ^ 56) 0) (leb→le (2 ^ 63) (
 
     where-to : (r : ℕ) → r < 178 * 2 ^ 56 → r / 2 ^ 56 < 178
     where-to r h = omega arith
-
--- ---- and fits a word
-pub mant-lt : (r : ℕ) → r < 178 * 2 ^ 56 → mantOf r < 2 ^ 64
-unfolding mantOf
-mant-lt r h = halves-lt (getD expTable (r / 2 ^ 56) 0) (minusOne (r % 2 ^ 56)) (hi (getD expTable (r / 2 ^ 56) 0) (minusOne (r % 2 ^ 56))) (table-lt (r / 2 ^ 56) (place r h)) (minusOne-lt (r % 2 ^ 56) (mod-lt r (pow-pos 56))) refl
-  where
-    place : (r : ℕ) → r < 178 * 2 ^ 56 → r / 2 ^ 56 < 178
-    place r h = omega arith

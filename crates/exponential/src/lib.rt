@@ -208,7 +208,7 @@ fn step(t: u64, c: u64, q: u64) -> u64
 }
 
 // e^(r / 2^64) in units of 2^-62. The square of t does not wait for the factor that it is multiplied by.
-pub fn mant(r: u64) -> u64
+fn mant(r: u64) -> u64
     requires { ⌜ r < 178 * 2 ^ 56 ⌝ }
     ensures { λ m. ⌜ m ≡ mantOf r ⌝ }
 {
