@@ -51,3 +51,10 @@ cjBelowFrom l c0 m = cond (c0 =f +0) +0 (c0 ⊗ powFrom l (neg m))
 
 unfoldable pub qBelowFrom : Log → Float → Float → Float → Float
 qBelowFrom l pb c0 m = cond (c0 =f +0) +0 (c0 ⊗ pb ⊘ (+1 ⊖ m) ⊗ (+1 ⊖ powFrom l (+1 ⊖ m)))
+
+-- bottom and sidewall
+unfoldable pub cjBelowBoth : Log → Float → Float → Float → Float → Float
+cjBelowBoth l bottom sidewall mj mjsw = cjBelowFrom l bottom mj ⊕ cjBelowFrom l sidewall mjsw
+
+unfoldable pub qBelowBoth : Log → Float → Float → Float → Float → Float → Float
+qBelowBoth l pb bottom sidewall mj mjsw = qBelowFrom l pb bottom mj ⊕ qBelowFrom l pb sidewall mjsw
