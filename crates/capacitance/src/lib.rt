@@ -13,7 +13,7 @@ ghost use Rattle.logarithm.specs.declared.Log.the-variants.{Above, Below};
 ghost use Rattle.power.specs.Power.{Fractional, Digits};
 ghost use Rattle.elementary.specs.Functions.{logOf};
 ghost use Rattle.capacitance.specs.Meyer.{meyerOf};
-ghost use Rattle.capacitance.specs.Depletion.{baseOf, cjAboveOf, qAboveOf, qDeplMOf, cjBelowFrom, qBelowFrom, cjBelowBoth, qBelowBoth, cjDeplOf, qDeplOf};
+ghost use Rattle.capacitance.specs.Depletion.{baseOf, cjAboveOf, qAboveOf, qDeplMOf, cjBelowFrom, qBelowFrom, cjBelowBoth, qBelowBoth, cjGradedOf, qGradedOf, qDeplOf};
 
 // The channel's capacitance as shared among gate-source, gate-drain and gate-bulk.
 pub struct GateShares {
@@ -215,17 +215,18 @@ fn below_fc_pb(pb_t: f64, bottom: f64, sidewall: f64, v: f64, mj: f64, mjsw: f64
 }
 
 // Both by one logarithm, which is not taken where the junction has no capacitance.
-pub fn cj_and_q_depl(g: Grading, bot: f64, sw: f64, v: f64) -> Depletion
-    ensures { λ r. ⌜ (r .c ≡ cjDeplOf g bot sw v) × (r .q ≡ qDeplOf g bot sw v) ⌝ }
+// Seven numbers, since a struct would be written to memory and read back by each call.
+pub fn cj_and_q_depl(
+    fc: f64,
+    pb_t: f64,
+    mj: f64,
+    mjsw: f64,
+    bottom: f64,
+    sidewall: f64,
+    v: f64,
+) -> Depletion
+    ensures { λ r. ⌜ (r .c ≡ cjGradedOf fc «pb_t» mj mjsw bottom sidewall v) × (r .q ≡ qGradedOf fc «pb_t» mj mjsw bottom sidewall v) ⌝ }
 {
-    let fc = g.fc;
-    let pb_t = g.pb_t;
-    let mj = g.mj;
-    let mjsw = g.mjsw;
-    let cj_t_factor = g.cj_t_factor;
-    let cjsw_t_factor = g.cjsw_t_factor;
-    let bottom = bot * cj_t_factor;
-    let sidewall = sw * cjsw_t_factor;
     if bottom == 0.0 {
         if sidewall == 0.0 {
             return Depletion { c: 0.0, q: 0.0 };

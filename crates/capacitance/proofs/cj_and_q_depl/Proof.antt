@@ -1,20 +1,20 @@
 use mathlib.Core.Path.{refl}
 use borrow.Author.Needs.{needs}
-use Rattle.capacitance.specs.Depletion.{cjDeplMOf, qDeplMOf, cjDeplOf, qDeplOf, cjBelowBoth, qBelowBoth}
+use Rattle.capacitance.specs.Depletion.{cjDeplMOf, qDeplMOf, cjBelowBoth, qBelowBoth}
 use Rattle.capacitance.proofs.NoCapacitance.{both-zero}
 use Rattle.capacitance.proofs.Powers.{cj-below, q-below, cj-above, q-above, sum-of}
 use Rattle.capacitance.proofs.cj_and_q_depl.Statement.{statement}
 use Rattle.capacitance.proofs.cj_and_q_depl.Tie as tie
 
 returns : tie.Need-returns
-unfolding cjDeplOf qDeplOf cjDeplMOf qDeplMOf
+unfolding cjDeplMOf qDeplMOf
 returns c = (both-zero _ _ _ _ (c .before .if1 .taken) (c .if2 .taken), both-zero _ _ _ _ (c .before .if1 .taken) (c .if2 .taken))
 
 below-fc-pb-requires : tie.Need-below-fc-pb-requires
 below-fc-pb-requires c κs = search needs
 
 returns-2 : tie.Need-returns-2
-unfolding cjDeplOf qDeplOf cjBelowBoth qBelowBoth
+unfolding cjBelowBoth qBelowBoth
 returns-2 c =
     let t = c .before .if3 .taken in
     let r = c .below-fc-pb .ensures in
@@ -33,7 +33,6 @@ both-requires : tie.Need-both-requires
 both-requires c κs = search needs
 
 returns-3 : tie.Need-returns-3
-unfolding cjDeplOf qDeplOf
 returns-3 c =
     let t = c .before .before .before .before .if3 .left in
     let b = c .before .before .depl-above .ensures in
