@@ -32,14 +32,19 @@ qAboveOf fc pb c0 v m =
 unfoldable pub qDeplMOf : Float → Float → Float → Float → Float → Float
 qDeplMOf fc pb c0 v m = cond (c0 =f +0) +0 (cond (v <f fc ⊗ pb) (qBelowOf pb c0 (+1 ⊖ v ⊘ pb) m) (qAboveOf fc pb c0 v m))
 
--- a whole junction: the bottom graded by mj, the sidewall by mjsw, each with its own temperature factor
+-- a whole junction by its capacitances at zero bias: the bottom graded by mj, the sidewall by mjsw
+abbrev pub cjGradedOf : Float → Float → Float → Float → Float → Float → Float → Float
+cjGradedOf fc pb mj mjsw bottom sidewall v = cjDeplMOf fc pb bottom v mj ⊕ cjDeplMOf fc pb sidewall v mjsw
+
+abbrev pub qGradedOf : Float → Float → Float → Float → Float → Float → Float → Float
+qGradedOf fc pb mj mjsw bottom sidewall v = qDeplMOf fc pb bottom v mj ⊕ qDeplMOf fc pb sidewall v mjsw
+
+-- bottom and sidewall at the nominal temperature, each with its own temperature factor
 unfoldable pub cjDeplOf : Grading → Float → Float → Float → Float
-cjDeplOf g bot sw v =
-    cjDeplMOf (g .fc) (g .«pb_t») (bot ⊗ g .«cj_t_factor») v (g .mj) ⊕ cjDeplMOf (g .fc) (g .«pb_t») (sw ⊗ g .«cjsw_t_factor») v (g .mjsw)
+cjDeplOf g bot sw v = cjGradedOf (g .fc) (g .«pb_t») (g .mj) (g .mjsw) (bot ⊗ g .«cj_t_factor») (sw ⊗ g .«cjsw_t_factor») v
 
 unfoldable pub qDeplOf : Grading → Float → Float → Float → Float
-qDeplOf g bot sw v =
-    qDeplMOf (g .fc) (g .«pb_t») (bot ⊗ g .«cj_t_factor») v (g .mj) ⊕ qDeplMOf (g .fc) (g .«pb_t») (sw ⊗ g .«cjsw_t_factor») v (g .mjsw)
+qDeplOf g bot sw v = qGradedOf (g .fc) (g .«pb_t») (g .mj) (g .mjsw) (bot ⊗ g .«cj_t_factor») (sw ⊗ g .«cjsw_t_factor») v
 
 -- the base of the powers: 1 - v / pb, and 1 - fc from fc pb on
 unfoldable pub baseOf : Float → Float → Float → Float
@@ -51,3 +56,10 @@ cjBelowFrom l c0 m = cond (c0 =f +0) +0 (c0 ⊗ powFrom l (neg m))
 
 unfoldable pub qBelowFrom : Log → Float → Float → Float → Float
 qBelowFrom l pb c0 m = cond (c0 =f +0) +0 (c0 ⊗ pb ⊘ (+1 ⊖ m) ⊗ (+1 ⊖ powFrom l (+1 ⊖ m)))
+
+-- bottom and sidewall
+unfoldable pub cjBelowBoth : Log → Float → Float → Float → Float → Float
+cjBelowBoth l bottom sidewall mj mjsw = cjBelowFrom l bottom mj ⊕ cjBelowFrom l sidewall mjsw
+
+unfoldable pub qBelowBoth : Log → Float → Float → Float → Float → Float → Float
+qBelowBoth l pb bottom sidewall mj mjsw = qBelowFrom l pb bottom mj ⊕ qBelowFrom l pb sidewall mjsw

@@ -3,12 +3,17 @@ use channel::Region;
 use elementary::Log;
 use elementary::log_of;
 use elementary::pow_of;
+use power::exponent;
+use power::raise;
 ghost use mathlib.Core.Path.{_≡_};
-ghost use mathlib.Core.Bool.{cond};
-ghost use Rattle.exact.specs.Float64.{_⊕_, _⊖_, _=f_, +0, +1};
+ghost use mathlib.Core.Bool.{true, cond};
+ghost use Prim.Native.Nat.{_*_, _^_, _≤_};
+ghost use Rattle.exact.specs.Float64.{_⊕_, _⊖_, _⊘_, _=f_, +0, +1};
+ghost use Rattle.logarithm.specs.declared.Log.the-variants.{Above, Below};
+ghost use Rattle.power.specs.Power.{Fractional, Digits};
 ghost use Rattle.elementary.specs.Functions.{logOf};
 ghost use Rattle.capacitance.specs.Meyer.{meyerOf};
-ghost use Rattle.capacitance.specs.Depletion.{baseOf, cjAboveOf, qAboveOf, qDeplMOf, cjBelowFrom, qBelowFrom, cjDeplOf, qDeplOf};
+ghost use Rattle.capacitance.specs.Depletion.{baseOf, cjAboveOf, qAboveOf, qDeplMOf, cjBelowFrom, qBelowFrom, cjBelowBoth, qBelowBoth, cjGradedOf, qGradedOf, qDeplOf};
 
 // The channel's capacitance as shared among gate-source, gate-drain and gate-bulk.
 pub struct GateShares {
@@ -122,28 +127,113 @@ fn depl_above(l: Log, fc: f64, pb_t: f64, c0: f64, v: f64, m: f64) -> Depletion
     }
 }
 
-// Both by one logarithm, which is not taken where the junction has no capacitance.
-pub fn cj_and_q_depl(g: Grading, bot: f64, sw: f64, v: f64) -> Depletion
-    ensures { λ r. ⌜ (r .c ≡ cjDeplOf g bot sw v) × (r .q ≡ qDeplOf g bot sw v) ⌝ }
+// Whether the exponents m and 1 - m are both from 2^-53 up to 1.
+fn fractions(m: f64) -> bool
+    ensures { λ r. ⌜ (r ≡ true → Fractional m × Fractional (+1 ⊖ m)) ⌝ }
 {
-    let fc = g.fc;
-    let pb_t = g.pb_t;
-    let mj = g.mj;
-    let mjsw = g.mjsw;
-    let cj_t_factor = g.cj_t_factor;
-    let cjsw_t_factor = g.cjsw_t_factor;
-    let bottom = bot * cj_t_factor;
-    let sidewall = sw * cjsw_t_factor;
+    if m >= 0.00000000000000011102230246251565 {
+        return 1.0 - m >= 0.00000000000000011102230246251565;
+    }
+    false
+}
+
+// `depl_below` by the digits of m and 1 - m, and by the size w of the logarithm of the base, which is below 1 or above.
+fn depl_by_digits(dm: u64, dn: u64, w: u64, below: bool, pb_t: f64, c0: f64, m: f64) -> Depletion
+    requires { ⌜ (w ≤ 700 * 2 ^ 53) × (Digits m dm × Digits (+1 ⊖ m) dn) ⌝ }
+    ensures { λ r. ⌜ (r .c ≡ cjBelowFrom (cond below (Below w) (Above w)) c0 m) × (r .q ≡ qBelowFrom (cond below (Below w) (Above w)) «pb_t» c0 m) ⌝ }
+{
+    if c0 == 0.0 {
+        return Depletion { c: 0.0, q: 0.0 };
+    }
+    let n = raise(w, dm);
+    let p = raise(w, dn);
+    if below {
+        return Depletion {
+            c: c0 * n,
+            q: c0 * pb_t / (1.0 - m) * (1.0 - 1.0 / p),
+        };
+    }
+    Depletion {
+        c: c0 * (1.0 / n),
+        q: c0 * pb_t / (1.0 - m) * (1.0 - p),
+    }
+}
+
+// Bottom and sidewall in that way.
+fn both_by_digits(
+    w: u64,
+    below: bool,
+    pb_t: f64,
+    bottom: f64,
+    sidewall: f64,
+    mj: f64,
+    mjsw: f64,
+) -> Depletion
+    requires { ⌜ (w ≤ 700 * 2 ^ 53) × ((Fractional mj × Fractional (+1 ⊖ mj)) × (Fractional mjsw × Fractional (+1 ⊖ mjsw))) ⌝ }
+    ensures { λ r. ⌜ (r .c ≡ cjBelowBoth (cond below (Below w) (Above w)) bottom sidewall mj mjsw) × (r .q ≡ qBelowBoth (cond below (Below w) (Above w)) «pb_t» bottom sidewall mj mjsw) ⌝ }
+{
+    let b = depl_by_digits(exponent(mj), exponent(1.0 - mj), w, below, pb_t, bottom, mj);
+    let s = depl_by_digits(
+        exponent(mjsw),
+        exponent(1.0 - mjsw),
+        w,
+        below,
+        pb_t,
+        sidewall,
+        mjsw,
+    );
+    both(b, s)
+}
+
+// A junction below fc pb, by one logarithm.
+fn below_fc_pb(pb_t: f64, bottom: f64, sidewall: f64, v: f64, mj: f64, mjsw: f64) -> Depletion
+    ensures { λ r. ⌜ (r .c ≡ cjBelowBoth (logOf (+1 ⊖ v ⊘ «pb_t»)) bottom sidewall mj mjsw) × (r .q ≡ qBelowBoth (logOf (+1 ⊖ v ⊘ «pb_t»)) «pb_t» bottom sidewall mj mjsw) ⌝ }
+{
+    let l = log_of(1.0 - v / pb_t);
+    if fractions(mj) {
+        if fractions(mjsw) {
+            match l {
+                Log::Above(w) => {
+                    if w <= 6305039478318694400 {
+                        return both_by_digits(w, false, pb_t, bottom, sidewall, mj, mjsw);
+                    }
+                }
+                Log::Below(w) => {
+                    if w <= 6305039478318694400 {
+                        return both_by_digits(w, true, pb_t, bottom, sidewall, mj, mjsw);
+                    }
+                }
+                Log::Undefined => {}
+                Log::BaseZero => {}
+                Log::BaseOne => {}
+            }
+        }
+    }
+    let b = depl_below(l, pb_t, bottom, mj);
+    let s = depl_below(l, pb_t, sidewall, mjsw);
+    both(b, s)
+}
+
+// Both by one logarithm, which is not taken where the junction has no capacitance.
+// Seven numbers, since a struct would be written to memory and read back by each call.
+pub fn cj_and_q_depl(
+    fc: f64,
+    pb_t: f64,
+    mj: f64,
+    mjsw: f64,
+    bottom: f64,
+    sidewall: f64,
+    v: f64,
+) -> Depletion
+    ensures { λ r. ⌜ (r .c ≡ cjGradedOf fc «pb_t» mj mjsw bottom sidewall v) × (r .q ≡ qGradedOf fc «pb_t» mj mjsw bottom sidewall v) ⌝ }
+{
     if bottom == 0.0 {
         if sidewall == 0.0 {
             return Depletion { c: 0.0, q: 0.0 };
         }
     }
     if v < fc * pb_t {
-        let l = log_of(1.0 - v / pb_t);
-        let b = depl_below(l, pb_t, bottom, mj);
-        let s = depl_below(l, pb_t, sidewall, mjsw);
-        return both(b, s);
+        return below_fc_pb(pb_t, bottom, sidewall, v, mj, mjsw);
     }
     let l = log_of(1.0 - fc);
     let b = depl_above(l, fc, pb_t, bottom, v, mj);

@@ -2,6 +2,7 @@
 use bias::Voltages;
 use capacitance::GateShares;
 use capacitance::Grading;
+use capacitance::cj_and_q_depl;
 use device::Card;
 use device::Charges;
 use device::Geometry;
@@ -43,8 +44,16 @@ pub fn charges_at(geometry: Geometry, shares: GateShares, grading: Grading, v: V
     let cgb = geometry.cgb_ov + shares.gb;
     let vbs = vb - vs;
     let vbd = vb - vd;
-    let bs = capacitance::cj_and_q_depl(grading, geometry.cbs_bot, geometry.cbs_sw, vbs);
-    let bd = capacitance::cj_and_q_depl(grading, geometry.cbd_bot, geometry.cbd_sw, vbd);
+    let fc = grading.fc;
+    let pb_t = grading.pb_t;
+    let mj = grading.mj;
+    let mjsw = grading.mjsw;
+    let bs_bottom = geometry.cbs_bot * grading.cj_t_factor;
+    let bs_sidewall = geometry.cbs_sw * grading.cjsw_t_factor;
+    let bd_bottom = geometry.cbd_bot * grading.cj_t_factor;
+    let bd_sidewall = geometry.cbd_sw * grading.cjsw_t_factor;
+    let bs = cj_and_q_depl(fc, pb_t, mj, mjsw, bs_bottom, bs_sidewall, vbs);
+    let bd = cj_and_q_depl(fc, pb_t, mj, mjsw, bd_bottom, bd_sidewall, vbd);
     Charges {
         cgs_eval: cgs,
         cgd_eval: cgd,

@@ -3,6 +3,7 @@ pub mod Products
 pub mod Cores
 pub mod Signs
 pub mod RaisedBySize
+pub mod FractionalExponents
 pub mod Accuracy
 pub mod SpecialCases
 pub mod Sizes

@@ -32,10 +32,10 @@ no-clash : {X : Type 0} → false ≡ true → X
 no-clash h = absurd (subst T (sym h) tt)
 
 -- ---- a number above zero, and one below
-abbrev P : ℕ → ℤ → Float
+abbrev pub P : ℕ → ℤ → Float
 P m e = fin false (suc m) e
 
-abbrev N : ℕ → ℤ → Float
+abbrev pub N : ℕ → ℤ → Float
 N m e = fin true (suc m) e
 
 plus-not-low : (m : ℕ) (e : ℤ) → lt (P m e) minusFour ≡ false
@@ -105,11 +105,11 @@ module _ (v : ℕ) (below : Bool) where
   Answer p = cond (p =f +0) +1 (raisedOf v below p)
 
   -- what the sign picks
-  plus : (m : ℕ) (e : ℤ) → Answer (P m e) ≡ cond (four <f P m e) nan (powerOf (productOf (P m e) v) below)
+  pub plus : (m : ℕ) (e : ℤ) → Answer (P m e) ≡ cond (four <f P m e) nan (powerOf (productOf (P m e) v) below)
   unfolding raisedOf
   plus m e = λ i. cond (not-zero false m e i) +1 (cond (four <f P m e) nan (cond (plus-not-low m e i) nan (cond (plus-above m e i) (powerOf (productOf (P m e) v) below) (cond (P m e <f +0) (powerOf (productOf (neg (P m e)) v) (not below)) nan))))
 
-  minus : (m : ℕ) (e : ℤ) → Answer (N m e) ≡ cond (four <f P m e) nan (powerOf (productOf (P m e) v) (not below))
+  pub minus : (m : ℕ) (e : ℤ) → Answer (N m e) ≡ cond (four <f P m e) nan (powerOf (productOf (P m e) v) (not below))
   unfolding raisedOf
   minus m e = λ i. cond (not-zero true m e i) +1 (cond (minus-not-high m e i) nan (cond (minus-low m e i) nan (cond (minus-not-above m e i) (powerOf (productOf (N m e) v) below) (cond (minus-below m e i) (powerOf (productOf (neg-minus m e i) v) (not below)) nan))))
 

@@ -1,11 +1,12 @@
 -- pow on f64, as the code computes it: by the base's logarithm, which can be kept for several exponents.
-use Prim.Native.Nat.{ℕ, _*_, _^_}
+use mathlib.Core.Path.{_≡_}
+use Prim.Native.Nat.{ℕ, _*_, _^_, _≤_}
 use mathlib.Core.Bool.{Bool, true, false, not, cond}
-use lib.Dec.{ltb}
+use lib.Dec.{T, ltb}
 use lib.Ieee.{Float, nan, inf, binary64, ofBits, neg}
-use Rattle.exact.specs.Float64.{_⊘_, _<f_, _=f_, +0, +1}
+use Rattle.exact.specs.Float64.{_⊘_, _<f_, _≤f_, _=f_, +0, +1}
 use Rattle.exponential.specs.Mantissa.{hi}
-use Rattle.exponential.specs.Exponential.{expFixed, fixedOf}
+use Rattle.exponential.specs.Exponential.{least, expFixed, fixedOf}
 use Rattle.logarithm.specs.declared.Log.{Log}
 use Rattle.logarithm.specs.declared.Log.the-variants.{Undefined, BaseZero, BaseOne, Above, Below}
 use Rattle.logarithm.specs.Logarithm.{logOf}
@@ -62,3 +63,14 @@ powFrom l p = cond (p =f +0) +1 (nonzeroPower l p)
 unfoldable pub powOf : Float → Float → Float
 unfolding powFrom
 powOf b p = powFrom (logOf b) p
+
+-- an exponent from 2^-53 up to 1
+pub record Fractional (p : Float) : Type 0 where
+  pub at-least : T (least ≤f p)
+  pub at-most : T (p ≤f +1)
+
+-- such an exponent in units of 2^-61: the whole part of p * 2^53, and eight zeros behind it
+pub record Digits (p : Float) (d : ℕ) : Type 0 where
+  pub fractional : Fractional p
+  pub digits : d ≡ fixedOf p * 256
+  pub few : d ≤ 2 ^ 61

@@ -1,11 +1,13 @@
 // The power of a positive number: e to the product of the exponent and the base's logarithm, in fixed point.
 ghost use mathlib.Core.Path.{_≡_};
+ghost use Prim.Native.Nat.{_*_, _^_, _≤_};
 ghost use lib.Dec.{T};
 ghost use mathlib.Core.Bool.{cond};
 ghost use lib.Ieee.{nan, le};
 ghost use Rattle.exact.specs.Float64.{_=f_, +0, +1};
-ghost use Rattle.exponential.specs.Exponential.{least};
-ghost use Rattle.power.specs.Power.{four, productOf, powerOf, sizeOf, downOf, raisedOf, zeroTo, powFrom, powOf};
+ghost use Rattle.exponential.specs.Mantissa.{hi};
+ghost use Rattle.exponential.specs.Exponential.{least, expFixed};
+ghost use Rattle.power.specs.Power.{four, productOf, powerOf, sizeOf, downOf, raisedOf, zeroTo, powFrom, powOf, Fractional, Digits};
 use exponential::exp_fixed;
 use exponential::whole_part;
 use logarithm::Log;
@@ -108,4 +110,21 @@ pub fn pow(b: f64, p: f64) -> f64
     ensures { λ r. ⌜ r ≡ powOf b p ⌝ }
 {
     pow_of(log_of(b), p)
+}
+
+// For several powers of one base: an exponent from 2^-53 up to 1, in units of 2^-61. It serves the next layer, as does
+// `raise`: the exponents have been tested.
+pub fn exponent(a: f64) -> u64
+    requires { ⌜ Fractional a ⌝ }
+    ensures { λ r. ⌜ Digits a r ⌝ }
+{
+    whole_part(a) * 256
+}
+
+// e^(a * v / 2^53) for such an exponent a, by its digits.
+pub fn raise(v: u64, digits: u64) -> f64
+    requires { ⌜ (v ≤ 700 * 2 ^ 53) × (digits ≤ 2 ^ 61) ⌝ }
+    ensures { λ r. ⌜ r ≡ expFixed (8 * hi digits v) ⌝ }
+{
+    exp_fixed(8 * mulhi(digits, v))
 }

@@ -1,3 +1,4 @@
+use Rattle.capacitance.specs.Depletion.{cjDeplOf, qDeplOf}
 use Rattle.charges.specs.Charges.{chargesOf}
 use Rattle.charges.proofs.charges_at.Statement.{statement}
 use Rattle.charges.proofs.charges_at.Tie as tie
@@ -9,7 +10,7 @@ cj-and-q-depl-requires-2 : tie.Need-cj-and-q-depl-requires-2
 cj-and-q-depl-requires-2 c κs = tt
 
 returns : tie.Need-returns
-unfolding chargesOf
+unfolding chargesOf cjDeplOf qDeplOf
 returns c =
     let bs = c .before .cj-and-q-depl .ensures in
     let bd = c .cj-and-q-depl2 .ensures in
