@@ -11,6 +11,7 @@ use record_setup::CountOutcome;
 use record_setup::NodesRecord;
 use record_small_signal::NoiseOutcome;
 use record_small_signal::ReactancesOutcome;
+use record_steps::ChangesOrRefusal;
 use record_steps::ConditionsRecord;
 use record_steps::EvaluationOutcome;
 use record_steps::EvaluationReply;
@@ -152,7 +153,7 @@ pub extern "C" fn mivtolgya_small_signal_reactances(device: DeviceRecord) -> Rea
 
 // ---- the calls of the loop on a record where it lies
 
-// `mivtolgya_eval`. Only the parts that an evaluation changes are written.
+// `mivtolgya_eval`. Only the parts that an evaluation changes are written, and none where it is refused.
 #[no_mangle]
 pub extern "C" fn mivtolgya_eval_in_place(
     device: &mut DeviceRecord,
@@ -163,12 +164,16 @@ pub extern "C" fn mivtolgya_eval_in_place(
         × (now (device .exit) ≡ evalCall (now (device .entry)) (now (x .entry)) conditions .device) ⌝ }
 {
     let old = *device;
-    let changes = record_steps::evaluate(old, x, conditions);
-    device.point = changes.point;
-    device.charges = changes.charges;
-    device.method = changes.method;
-    device.stage = changes.stage;
-    changes.reply
+    match record_steps::evaluate(old, x, conditions) {
+        ChangesOrRefusal::Changes(changes) => {
+            device.point = changes.point;
+            device.charges = changes.charges;
+            device.method = changes.method;
+            device.stage = changes.stage;
+            changes.reply
+        }
+        ChangesOrRefusal::Refusal(reply) => reply,
+    }
 }
 
 // `mivtolgya_load`. The record is only read.

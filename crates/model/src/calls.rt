@@ -23,11 +23,16 @@ pub fn eval(d: Mosfet1, x: &[f64], transient: bool, k: Conditions) -> Evaluation
     let stage = d.stage;
     let kelvin = k.temperature;
     let method = k.method;
-    let row = step_rows::eval_row(stage, d.terminals, x, kelvin.0, k.gmin, method);
-    if row != 0 {
-        return Evaluation::Refused(row);
+    let n = x.len();
+    let first = step_rows::first_row(stage, d.terminals, n, kelvin.0, k.gmin);
+    if first != 0 {
+        return Evaluation::Refused(first);
     }
     let v = rows::voltages(x, d.terminals);
+    let last = step_rows::last_row(v, method);
+    if last != 0 {
+        return Evaluation::Refused(last);
+    }
     let e = mosfet1::steps::evaluate(d, v, transient, k);
     Evaluation::Done(e)
 }

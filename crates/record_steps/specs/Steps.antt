@@ -25,6 +25,8 @@ use Rattle.record_steps.specs.declared.ConditionsRecord.{ConditionsRecor
 use Rattle.record_steps.specs.declared.EvaluationOutcome.{EvaluationOutcome}
 use Rattle.record_steps.specs.declared.EvaluationReply.{EvaluationReply}
 use Rattle.record_steps.specs.declared.EvaluationChanges.{EvaluationChanges}
+use Rattle.record_steps.specs.declared.ChangesOrRefusal.{ChangesOrRefusal}
+use Rattle.record_steps.specs.declared.ChangesOrRefusal.the-variants.{Changes, Refusal}
 use Rattle.record_steps.specs.declared.CommitChanges.{CommitChanges}
 
 unfoldable pub goodConditions : ConditionsRecord → Bool
@@ -85,17 +87,6 @@ evalCall r x k =
 unfoldable pub replyOf : EvaluationOutcome → EvaluationReply
 replyOf o = record { refusal = o .refusal; answer = o .answer }
 
--- the reply, and the parts of the record that an evaluation may change
-unfoldable pub changesOf : EvaluationOutcome → EvaluationChanges
-changesOf o =
-    record {
-      reply = replyOf o;
-      point = o .device .point;
-      charges = o .device .charges;
-      method = o .device .method;
-      stage = o .device .stage;
-    }
-
 unfoldable pub changedRecord : DeviceRecord → EvaluationChanges → DeviceRecord
 changedRecord r c =
     record {
@@ -109,6 +100,11 @@ changedRecord r c =
       method = c .method;
       stage = c .stage;
     }
+
+-- the outcome of a call, from the record handed in and what the call gives to be stored
+unfoldable pub outcomeFrom : DeviceRecord → ChangesOrRefusal → EvaluationOutcome
+outcomeFrom r (Changes c) = record { refusal = c .reply .refusal; answer = c .reply .answer; device = changedRecord r c }
+outcomeFrom r (Refusal y) = record { refusal = y .refusal; answer = y .answer; device = r }
 
 -- the record after a commit that leaves the device d
 unfoldable pub committedRecord : DeviceRecord → Mosfet1 → DeviceRecord

@@ -11,7 +11,7 @@ use record::MethodRecord;
 use record::PointRecord;
 use temperature::Kelvin;
 ghost use mathlib.Core.Path.{_≡_};
-ghost use Rattle.record_steps.specs.Steps.{goodConditions, conditionsFrom, answerRecord, refusedEvaluation, evaluatedOutcome, evaluationOutcome, evalCall, changesOf, commitOutcome, commitCall, commitChangesOf};
+ghost use Rattle.record_steps.specs.Steps.{goodConditions, conditionsFrom, answerRecord, refusedEvaluation, evaluatedOutcome, evaluationOutcome, evalCall, outcomeFrom, commitOutcome, commitCall, commitChangesOf};
 ghost use Rattle.record.specs.declared.DeviceRecord.{DeviceRecord};
 
 // What an evaluation is handed besides the voltages. The limiter and the transient flag are 0 or 1.
@@ -51,13 +51,19 @@ pub struct EvaluationReply {
     pub answer: AnswerRecord,
 }
 
-// The reply, and the parts of the record that an evaluation may change.
+// The reply of an accepted evaluation, and the parts of the record that it changes.
 pub struct EvaluationChanges {
     pub reply: EvaluationReply,
     pub point: PointRecord,
     pub charges: ChargesRecord,
     pub method: MethodRecord,
     pub stage: u64,
+}
+
+// A refused evaluation changes no part of the record: there is its reply alone, so that nobody has to store what did not change.
+pub enum ChangesOrRefusal {
+    Changes(EvaluationChanges),
+    Refusal(EvaluationReply),
 }
 
 // The number of the refusal, and the parts of the record that a commit may change.
@@ -106,35 +112,26 @@ fn answer_record(a: Answer) -> AnswerRecord
     }
 }
 
-fn refused_evaluation(r: DeviceRecord, n: u64) -> EvaluationChanges
-    ensures { λ c. ⌜ c ≡ changesOf (refusedEvaluation r n) ⌝ }
+// What changes is the same for every record that stands for the device, so none is handed in.
+fn refused_evaluation(n: u64) -> ChangesOrRefusal
+    ensures { λ c. ⌜ ((r : DeviceRecord) → outcomeFrom r c ≡ refusedEvaluation r n) ⌝ }
 {
-    let point = r.point;
-    let charges = r.charges;
-    let method = r.method;
-    EvaluationChanges {
-        reply: EvaluationReply {
-            refusal: n,
-            answer: AnswerRecord {
-                vgs: 0.0,
-                vds: 0.0,
-                vth: 0.0,
-                ids: 0.0,
-                gm: 0.0,
-                gds: 0.0,
-                gmbs: 0.0,
-            },
+    ChangesOrRefusal::Refusal(EvaluationReply {
+        refusal: n,
+        answer: AnswerRecord {
+            vgs: 0.0,
+            vds: 0.0,
+            vth: 0.0,
+            ids: 0.0,
+            gm: 0.0,
+            gds: 0.0,
+            gmbs: 0.0,
         },
-        point,
-        charges,
-        method,
-        stage: r.stage,
-    }
+    })
 }
 
-// What changes is the same for every record that stands for the device.
-fn accepted_evaluation(e: Evaluated) -> EvaluationChanges
-    ensures { λ c. ⌜ ((r : DeviceRecord) → c ≡ changesOf (evaluatedOutcome r e)) ⌝ }
+fn accepted_evaluation(e: Evaluated) -> ChangesOrRefusal
+    ensures { λ c. ⌜ ((r : DeviceRecord) → outcomeFrom r c ≡ evaluatedOutcome r e) ⌝ }
 {
     let a = e.answer;
     let d = e.device;
@@ -142,7 +139,7 @@ fn accepted_evaluation(e: Evaluated) -> EvaluationChanges
     let charges = d.charges;
     let disc = d.disc;
     let stage = d.stage;
-    EvaluationChanges {
+    let changes = EvaluationChanges {
         reply: EvaluationReply {
             refusal: 0,
             answer: answer_record(a),
@@ -151,33 +148,34 @@ fn accepted_evaluation(e: Evaluated) -> EvaluationChanges
         charges: record::charges_record(charges),
         method: record::method_record(disc),
         stage: record::stage_tag(stage),
-    }
+    };
+    ChangesOrRefusal::Changes(changes)
 }
 
-fn evaluation_changes(r: DeviceRecord, a: Evaluation) -> EvaluationChanges
-    ensures { λ c. ⌜ c ≡ changesOf (evaluationOutcome r a) ⌝ }
+fn evaluation_changes(a: Evaluation) -> ChangesOrRefusal
+    ensures { λ c. ⌜ ((r : DeviceRecord) → outcomeFrom r c ≡ evaluationOutcome r a) ⌝ }
 {
     match a {
         Evaluation::Done(e) => accepted_evaluation(e),
-        Evaluation::Refused(n) => refused_evaluation(r, record::wide(n)),
+        Evaluation::Refused(n) => refused_evaluation(record::wide(n)),
     }
 }
 
 // `eval` of the device that the record stands for: the answer, and what of the record changes.
-pub fn evaluate(r: DeviceRecord, x: &[f64], k: ConditionsRecord) -> EvaluationChanges
-    ensures { λ c. ⌜ c ≡ changesOf (evalCall r (now (x .entry)) k) ⌝ }
+pub fn evaluate(r: DeviceRecord, x: &[f64], k: ConditionsRecord) -> ChangesOrRefusal
+    ensures { λ c. ⌜ outcomeFrom r c ≡ evalCall r (now (x .entry)) k ⌝ }
 {
     if !from_record::good_tags(r) {
-        return refused_evaluation(r, 100);
+        return refused_evaluation(100);
     }
     if !good_conditions(k) {
-        return refused_evaluation(r, 100);
+        return refused_evaluation(100);
     }
     let d = from_record::device_from(r);
     let conditions = conditions_from(k);
     let transient = k.transient == 1;
     let a = model::calls::eval(d, x, transient, conditions);
-    evaluation_changes(r, a)
+    evaluation_changes(a)
 }
 
 fn refused_commit(r: DeviceRecord, n: u64) -> CommitChanges

@@ -1,4 +1,5 @@
-// The rows that refuse an evaluation and a commit. Their definitions are in `rows`.
+// The rows that refuse an evaluation and a commit. Their definitions are in `rows`. Those of an evaluation are asked in two parts, so
+// that the caller reads the voltages once, between them.
 use bias::Voltages;
 use device::Discretisation;
 use device::NodeId;
@@ -6,7 +7,8 @@ use device::Stage;
 use device::Terminals;
 ghost use mathlib.Core.Path.{_≡_};
 ghost use mathlib.Core.Bool.{_||_};
-ghost use Rattle.rows.specs.Rows.{outsideOf, row6Of, beyondOf, row8Of, row9Of, unboundOf, badStepOf, row11Of, evalRowOf, commitRowOf};
+ghost use Rattle.rows.specs.Rows.{outsideOf, row6Of, beyondOf, row8Of, row9Of, unboundOf, badStepOf, row11Of, commitRowOf};
+ghost use Rattle.step_rows.specs.StepRows.{firstRowOf, lastRowOf};
 
 fn either(a: bool, b: bool) -> bool
     ensures { λ r. ⌜ r ≡ (a || b) ⌝ }
@@ -94,16 +96,9 @@ fn row11(disc: Discretisation) -> bool
     }
 }
 
-// Before binding rows 8 and 9 do not apply, and row 10 does.
-pub fn eval_row(
-    stage: Stage,
-    t: Terminals,
-    x: &[f64],
-    temperature: f64,
-    gmin: f64,
-    disc: Discretisation,
-) -> u8
-    ensures { λ r. ⌜ r ≡ evalRowOf stage t (now (x .entry)) temperature gmin disc ⌝ }
+// The rows of an evaluation that need no voltage. Before binding rows 8 and 9 do not apply, and row 10 does.
+pub fn first_row(stage: Stage, t: Terminals, n: usize, temperature: f64, gmin: f64) -> u8
+    ensures { λ r. ⌜ r ≡ firstRowOf stage t n temperature gmin ⌝ }
 {
     if row6(temperature, gmin) {
         return 6;
@@ -111,11 +106,16 @@ pub fn eval_row(
     if unbound(stage) {
         return 10;
     }
-    let n = x.len();
     if row8(n, t) {
         return 8;
     }
-    let v = rows::voltages(x, t);
+    0
+}
+
+// The rows of an evaluation that are asked once the voltages are read: row 9 is about them, row 11 about the step lengths.
+pub fn last_row(v: Voltages, disc: Discretisation) -> u8
+    ensures { λ r. ⌜ r ≡ lastRowOf v disc ⌝ }
+{
     if row9(v) {
         return 9;
     }

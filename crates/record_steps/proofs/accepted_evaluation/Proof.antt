@@ -1,6 +1,6 @@
 -- `record_steps::accepted_evaluation` meets its contract.
 -- Assumes nothing.
-use Rattle.record_steps.specs.Steps.{evaluatedRecord, evaluatedOutcome, replyOf, changesOf}
+use Rattle.record_steps.specs.Steps.{evaluatedRecord, evaluatedOutcome, changedRecord, outcomeFrom}
 use borrow.Author.Needs.{needs}
 use Rattle.record_steps.proofs.accepted_evaluation.Statement.{statement}
 use Rattle.record_steps.proofs.accepted_evaluation.Tie as tie
@@ -21,7 +21,7 @@ stage-tag-requires : tie.Need-stage-tag-requires
 stage-tag-requires c κs = search needs
 
 returns : tie.Need-returns
-unfolding evaluatedRecord evaluatedOutcome replyOf changesOf
+unfolding evaluatedRecord evaluatedOutcome changedRecord outcomeFrom
 returns c r = rw (c .stage-tag .ensures, c .before .method-record .ensures, c .before .before .charges-record .ensures, c .before .before .before .point-record .ensures, c .before .before .before .before .answer-record .ensures)
 
 pub accepted-evaluation-spec : {M : Type 1} → statement M

@@ -14,7 +14,7 @@ refused-evaluation-requires c κs = search needs
 
 returns : tie.Need-returns
 unfolding evalCall
-returns c = rw (c .refused-evaluation .ensures, ← c .before .before .good-tags .ensures, not-true (c .before .before .good-tags .result) (c .before .if1 .taken))
+returns c = rw (c .refused-evaluation .ensures _, ← c .before .before .good-tags .ensures, not-true (c .before .before .good-tags .result) (c .before .if1 .taken))
 
 good-conditions-requires : tie.Need-good-conditions-requires
 good-conditions-requires c κs = search needs
@@ -24,7 +24,7 @@ refused-evaluation-requires-2 c κs = search needs
 
 returns-2 : tie.Need-returns-2
 unfolding evalCall
-returns-2 c = rw (c .refused-evaluation2 .ensures, ← c .before .before .before .before .good-tags .ensures, not-false (c .before .before .before .before .good-tags .result) (c .before .before .before .if1 .left), ← c .before .before .good-conditions .ensures, not-true (c .before .before .good-conditions .result) (c .before .if2 .taken))
+returns-2 c = rw (c .refused-evaluation2 .ensures _, ← c .before .before .before .before .good-tags .ensures, not-false (c .before .before .before .before .good-tags .result) (c .before .before .before .if1 .left), ← c .before .before .good-conditions .ensures, not-true (c .before .before .good-conditions .result) (c .before .if2 .taken))
 
 device-from-requires : tie.Need-device-from-requires
 device-from-requires c κs = search needs
@@ -40,7 +40,7 @@ evaluation-changes-requires c κs = search needs
 
 returns-3 : tie.Need-returns-3
 unfolding evalCall
-returns-3 c = rw (c .evaluation-changes .ensures, c .before .eval .ensures, c .before .before .before .conditions-from .ensures, c .before .before .before .before .device-from .ensures, ← c .before .before .before .before .before .before .before .before .good-tags .ensures, not-false (c .before .before .before .before .before .before .before .before .good-tags .result) (c .before .before .before .before .before .before .before .if1 .left), ← c .before .before .before .before .before .before .good-conditions .ensures, not-false (c .before .before .before .before .before .before .good-conditions .result) (c .before .before .before .before .before .if2 .left))
+returns-3 c = rw (c .evaluation-changes .ensures _, c .before .eval .ensures, c .before .before .before .conditions-from .ensures, c .before .before .before .before .device-from .ensures, ← c .before .before .before .before .before .before .before .before .good-tags .ensures, not-false (c .before .before .before .before .before .before .before .before .good-tags .result) (c .before .before .before .before .before .before .before .if1 .left), ← c .before .before .before .before .before .before .good-conditions .ensures, not-false (c .before .before .before .before .before .before .good-conditions .result) (c .before .before .before .before .before .if2 .left))
 
 pub evaluate-spec : {M : Type 1} → statement M
 evaluate-spec = tie.close (tie.spec good-tags-requires refused-evaluation-requires returns good-conditions-requires refused-evaluation-requires-2 returns-2 device-from-requires conditions-from-requires eval-requires evaluation-changes-requires returns-3)

@@ -1,6 +1,6 @@
 -- `record_steps::evaluation_changes` meets its contract.
 -- Assumes nothing.
-use Rattle.record_steps.specs.Steps.{evaluationOutcome, changesOf}
+use Rattle.record_steps.specs.Steps.{evaluationOutcome}
 use borrow.Author.Needs.{needs}
 use Rattle.record_steps.proofs.evaluation_changes.Statement.{statement}
 use Rattle.record_steps.proofs.evaluation_changes.Tie as tie
@@ -22,11 +22,11 @@ refused-evaluation-requires c κs = search needs
 
 returns : tie.Need-returns
 unfolding evaluationOutcome
-returns c = rw (c .before .before .a .given .1) (c .accepted-evaluation .ensures _)
+returns c r = rw (c .before .before .a .given .1) (c .accepted-evaluation .ensures r)
 
 returns-2 : tie.Need-returns-2
 unfolding evaluationOutcome
-returns-2 c = rw (c .refused-evaluation .ensures, c .before .wide .ensures, c .before .before .before .a2 .given .1)
+returns-2 c r = rw (c .before .before .before .a2 .given .1, ← c .before .wide .ensures) (c .refused-evaluation .ensures r)
 
 pub evaluation-changes-spec : {M : Type 1} → statement M
 evaluation-changes-spec = tie.close (tie.spec enum-known-a accepted-evaluation-requires enum-known-a-2 wide-requires refused-evaluation-requires returns returns-2)
