@@ -159,7 +159,7 @@ fn depl_by_digits(dm: u64, dn: u64, w: u64, below: bool, pb_t: f64, c0: f64, m: 
     }
 }
 
-// Bottom and sidewall in that way.
+// Bottom and sidewall in that way. All digits are taken before the first power, so that nothing waits.
 fn both_by_digits(
     w: u64,
     below: bool,
@@ -172,16 +172,12 @@ fn both_by_digits(
     requires { ⌜ (w ≤ 700 * 2 ^ 53) × ((Fractional mj × Fractional (+1 ⊖ mj)) × (Fractional mjsw × Fractional (+1 ⊖ mjsw))) ⌝ }
     ensures { λ r. ⌜ (r .c ≡ cjBelowBoth (cond below (Below w) (Above w)) bottom sidewall mj mjsw) × (r .q ≡ qBelowBoth (cond below (Below w) (Above w)) «pb_t» bottom sidewall mj mjsw) ⌝ }
 {
-    let b = depl_by_digits(exponent(mj), exponent(1.0 - mj), w, below, pb_t, bottom, mj);
-    let s = depl_by_digits(
-        exponent(mjsw),
-        exponent(1.0 - mjsw),
-        w,
-        below,
-        pb_t,
-        sidewall,
-        mjsw,
-    );
+    let bm = exponent(mj);
+    let bn = exponent(1.0 - mj);
+    let sm = exponent(mjsw);
+    let sn = exponent(1.0 - mjsw);
+    let b = depl_by_digits(bm, bn, w, below, pb_t, bottom, mj);
+    let s = depl_by_digits(sm, sn, w, below, pb_t, sidewall, mjsw);
     both(b, s)
 }
 
