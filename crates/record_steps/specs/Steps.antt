@@ -87,6 +87,7 @@ evalCall r x k =
 unfoldable pub replyOf : EvaluationOutcome → EvaluationReply
 replyOf o = record { refusal = o .refusal; answer = o .answer }
 
+-- the record with an evaluation's changes
 unfoldable pub changedRecord : DeviceRecord → EvaluationChanges → DeviceRecord
 changedRecord r c =
     record {

@@ -112,7 +112,7 @@ fn answer_record(a: Answer) -> AnswerRecord
     }
 }
 
-// What changes is the same for every record that stands for the device, so none is handed in.
+// What is answered and what changes is the same for every record that stands for the device: none is handed in here.
 fn refused_evaluation(n: u64) -> ChangesOrRefusal
     ensures { λ c. ⌜ ((r : DeviceRecord) → outcomeFrom r c ≡ refusedEvaluation r n) ⌝ }
 {

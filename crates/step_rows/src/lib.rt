@@ -1,5 +1,5 @@
-// The rows that refuse an evaluation and a commit. Their definitions are in `rows`. Those of an evaluation are asked in two parts, so
-// that the caller reads the voltages once, between them.
+// The rows that refuse an evaluation and a commit. Their definitions are in `rows`. Those of an evaluation are asked in two parts
+// (`specs/StepRows`), so that the caller reads the voltages once, between them.
 use bias::Voltages;
 use device::Discretisation;
 use device::NodeId;
