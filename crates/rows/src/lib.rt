@@ -1,5 +1,5 @@
-// The row that refuses a noise call, and reading the lent voltages. The rows of an evaluation and a commit are in `step_rows`; all
-// of the definitions are here.
+// The row that refuses a noise call, and reading the lent voltages. The rows of an evaluation and a commit are in `step_rows`; the
+// definition of each row, and of each call's rows as a whole, is here.
 use bias::Voltages;
 use device::NodeId;
 use device::Stage;
