@@ -1,4 +1,3 @@
-pub mod Arms
 pub mod Words
 pub mod Tables
 pub mod NearOne
