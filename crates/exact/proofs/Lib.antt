@@ -26,3 +26,5 @@ pub mod RelativeErrors
 pub mod Computing
 pub mod SizesExamples
 pub mod ErrorCalculusExamples
+pub mod PositivePatterns
+pub mod LeadingDigits

@@ -22,3 +22,7 @@ cond-yes x y e = subst (λ (b : Bool). x ≡ cond b x y) (sym e) refl
 
 pub cond-no : {A : Type 0} {b : Bool} (x y : A) → b ≡ false → y ≡ cond b x y
 cond-no x y e = subst (λ (b : Bool). y ≡ cond b x y) (sym e) refl
+
+-- a test does not both hold and fail
+pub clash : {A : Type 0} → true ≡ false → A
+clash e = absurd (subst T e tt)

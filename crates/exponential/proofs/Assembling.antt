@@ -9,7 +9,7 @@ use lib.Pow.{pow-add, pow-pos}
 use lib.Ieee.{Float, nan, inf, fin, binary64, ofBits, up, down}
 use lib.Ieee.Exact.{HasValue}
 use borrow.Author.Tests.{le-ltb}
-use Rattle.exponential.proofs.Patterns.{unitsOf, value}
+use Rattle.exact.proofs.PositivePatterns.{unitsOf, units-of-pattern}
 use Rattle.exponential.specs.Exponential.{patternOf}
 
 -- s * 2 ^ e units, for an s of 53 digits
@@ -41,7 +41,7 @@ smaller (fin t m e) s k v = (
     sort s p q d = omega arith
 
 at : (s k : ℕ) → 2 ^ 52 ≤ s → s < 2 ^ 53 → k ≤ 1011 → HasValue (ofBits binary64 ((k + 1022) * 2 ^ 52 + s)) false (s * 2 ^ k) (2 ^ 52)
-at s k lo hi h = smaller (ofBits binary64 ((k + 1022) * 2 ^ 52 + s)) s k (subst (λ (n : ℕ). HasValue (ofBits binary64 ((k + 1022) * 2 ^ 52 + s)) false n (2 ^ 1074)) (units-at s (k + 1022) lo hi) (value ((k + 1022) * 2 ^ 52 + s) (small s k hi h)))
+at s k lo hi h = smaller (ofBits binary64 ((k + 1022) * 2 ^ 52 + s)) s k (subst (λ (n : ℕ). HasValue (ofBits binary64 ((k + 1022) * 2 ^ 52 + s)) false n (2 ^ 1074)) (units-at s (k + 1022) lo hi) (units-of-pattern ((k + 1022) * 2 ^ 52 + s) (small s k hi h)))
   where
     small : (s k : ℕ) → s < 2 ^ 53 → k ≤ 1011 → (k + 1022) * 2 ^ 52 + s < 2047 * 2 ^ 52
     small s k h g = omega arith

@@ -6,13 +6,11 @@ pub mod Polynomial
 pub mod Mantissa
 pub mod TableLaws
 pub mod Whole
-pub mod Patterns
 pub mod Assembling
 pub mod Relative
 pub mod FixedPoint
 pub mod Reciprocal
 pub mod Ranges
-pub mod PositiveBits
 pub mod Cutting
 pub mod WholeDigits
 pub mod Accuracy

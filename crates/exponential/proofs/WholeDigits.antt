@@ -1,6 +1,6 @@
 -- The whole part of x * 2^53 by the bits of x: the digits, shifted to their place. Assumes nothing.
 use mathlib.Core.Path.{_≡_, refl, sym, ap, _∙_, subst}
-use mathlib.Core.Bool.{Bool, true, false, cond, not}
+use mathlib.Core.Bool.{true, false, not}
 use Prim.Native.Nat.{ℕ, _+_, _-_, _*_, _/_, _%_, _^_, _≤_, _<_}
 use native.Mathlib.Nat.{le-trans, le-of-eq, lt-of-le-of-lt, lt-of-lt-of-le, lt-of-not-le, not-le-of-lt, mul-assoc, mul-comm, mul-right-comm, mul-one, one-mul, mul-le-mul-right, mul-pos, zero-mul, le-of-mul-le-mul-right, le-add-left, div-eq-of-lt, mod-lt}
 use native.Mathlib.Decide.{decLe}
@@ -14,10 +14,8 @@ use lib.Ieee.Fits.{up-pos}
 use lib.Ieee.Exact.{HasValue}
 use lib.Ieee.Nearest.{div-same}
 use lib.Ieee.Positive.{num, den, positive, den-pos, value→cross, le→cross, cross→le, between}
-use borrow.Author.Tests.{lt-ltb, le-ltb}
+use Rattle.exact.proofs.PositivePatterns.{unitsOf, units-small, units-large, units-of-pattern, bits-above}
 use Rattle.exponential.specs.Exponential.{least, greatest, fixedOf}
-use Rattle.exponential.proofs.Patterns.{unitsOf, value}
-use Rattle.exponential.proofs.PositiveBits.{bits-above}
 use Rattle.exponential.proofs.Cutting.{whole-part}
 
 -- what it says of x that it is no less than the least
@@ -71,31 +69,23 @@ join j h = omega arith
 shifted-down : (q j : ℕ) → j ≤ 1074 → q / 2 ^ (1074 - j) ≡ q * 2 ^ j / 2 ^ 1074
 shifted-down q j h = ap (λ (k : ℕ). k / 2 ^ (1074 - j)) (sym (shl-shr q j)) ∙ shr-shr (q * 2 ^ j) j (1074 - j) ∙ ap (λ (k : ℕ). q * 2 ^ j / 2 ^ k) (join j h)
 
-units-of : (b : ℕ) → 2 ^ 52 ≤ b → unitsOf b ≡ (b % 2 ^ 52 + 2 ^ 52) * 2 ^ (b / 2 ^ 52 - 1)
-unfolding unitsOf
-units-of b h = ap (λ (t : Bool). cond t b ((b % 2 ^ 52 + 2 ^ 52) * 2 ^ (b / 2 ^ 52 - 1))) (le-ltb b (2 ^ 52) h)
-
 with-lead : (t : ℕ) → t < 2 ^ 52 → t + 2 ^ 52 < 2 ^ 53
 with-lead t h = omega arith
 
 -- a small exponent is a small number
 units-lt : (b : ℕ) → b / 2 ^ 52 < 970 → unitsOf b < 2 ^ 1021
-unfolding unitsOf
 units-lt b h = either (decLe (2 ^ 52) b)
   where
     few : (b : ℕ) → 2 ^ 52 ≤ b → b / 2 ^ 52 < 970 → 53 + (b / 2 ^ 52 - 1) ≤ 1021
     few b g h = omega arith
 
-    small : b < 2 ^ 52 → unitsOf b ≡ b
-    small g = ap (λ (t : Bool). cond t b ((b % 2 ^ 52 + 2 ^ 52) * 2 ^ (b / 2 ^ 52 - 1))) (lt-ltb b (2 ^ 52) g)
-
     either : Dec (2 ^ 52 ≤ b) → unitsOf b < 2 ^ 1021
-    either (yes g) = lt-of-le-of-lt (le-of-eq (units-of b g)) (lt-of-lt-of-le (shl-lt 53 (b / 2 ^ 52 - 1) (with-lead (b % 2 ^ 52) (mod-lt b (pow-pos 52)))) (pow-mono (few b g h)))
-    either (no f) = lt-of-le-of-lt (le-of-eq (small (lt-of-not-le f))) (lt-of-lt-of-le (lt-of-not-le f) (lit≤ {m = 2 ^ 52} {n = 2 ^ 1021} tt))
+    either (yes g) = lt-of-le-of-lt (le-of-eq (units-large b g)) (lt-of-lt-of-le (shl-lt 53 (b / 2 ^ 52 - 1) (with-lead (b % 2 ^ 52) (mod-lt b (pow-pos 52)))) (pow-mono (few b g h)))
+    either (no f) = lt-of-le-of-lt (le-of-eq (units-small b (lt-of-not-le f))) (lt-of-lt-of-le (lt-of-not-le f) (lit≤ {m = 2 ^ 52} {n = 2 ^ 1021} tt))
 
 -- a large one is a large number
 units-ge : (b : ℕ) → 1033 ≤ b / 2 ^ 52 → 2 ^ 1084 ≤ unitsOf b
-units-ge b h = le-trans (le-trans (pow-mono (many (b / 2 ^ 52) h)) (le-of-eq (pow-add 2 52 (b / 2 ^ 52 - 1)))) (le-trans (mul-le-mul-right (2 ^ (b / 2 ^ 52 - 1)) (le-add-left (2 ^ 52) (b % 2 ^ 52))) (le-of-eq (sym (units-of b (normal b h)))))
+units-ge b h = le-trans (le-trans (pow-mono (many (b / 2 ^ 52) h)) (le-of-eq (pow-add 2 52 (b / 2 ^ 52 - 1)))) (le-trans (mul-le-mul-right (2 ^ (b / 2 ^ 52 - 1)) (le-add-left (2 ^ 52) (b % 2 ^ 52))) (le-of-eq (sym (units-large b (normal b h)))))
   where
     many : (e : ℕ) → 1033 ≤ e → 1084 ≤ 52 + (e - 1)
     many e h = omega arith
@@ -111,7 +101,7 @@ module _ (x : Float) (f : T (fits binary64 x)) (p : T (positive x)) (q : T (le x
   e = b / 2 ^ 52
 
   cross : num x * 2 ^ 1074 ≡ unitsOf b * den x
-  cross = value→cross x (unitsOf b) (2 ^ 1074) (subst (λ (y : Float). HasValue y false (unitsOf b) (2 ^ 1074)) (ofBits-toBits binary64 x f) (value b (bits-above x f (above-zero x p) (under-infinity x p) .1)))
+  cross = value→cross x (unitsOf b) (2 ^ 1074) (subst (λ (y : Float). HasValue y false (unitsOf b) (2 ^ 1074)) (ofBits-toBits binary64 x f) (units-of-pattern b (bits-above x f (above-zero x p) (under-infinity x p) .1)))
 
   -- the whole part in those units
   in-units : fixedOf x ≡ unitsOf b * 2 ^ 53 / 2 ^ 1074
@@ -150,7 +140,7 @@ module _ (x : Float) (f : T (fits binary64 x)) (p : T (positive x)) (q : T (le x
         let d = b % 2 ^ 52 + 2 ^ 52 in
         ap (λ (k : ℕ). d * 2048 / 2 ^ k) (place e exponent-ge exponent-le)
         ∙ shifted-down (d * 2048) (e + 41) (near e exponent-le)
-        ∙ ap (λ (z : ℕ). z / 2 ^ 1074) (sort d ∙ ap (λ (z : ℕ). z * 2 ^ 53) (sym (units-of b (normal b exponent-ge))))
+        ∙ ap (λ (z : ℕ). z / 2 ^ 1074) (sort d ∙ ap (λ (z : ℕ). z * 2 ^ 53) (sym (units-large b (normal b exponent-ge))))
         ∙ sym in-units
       where
         place : (e : ℕ) → 970 ≤ e → e ≤ 1032 → 1033 - e ≡ 1074 - (e + 41)

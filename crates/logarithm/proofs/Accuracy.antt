@@ -32,7 +32,7 @@ use Rattle.series.proofs.ProductLaws.{tails, moderate-≈}
 use Rattle.series.proofs.SmallArguments.{E-one-plus}
 use Rattle.series.proofs.Shifts.{E-shift-≥}
 use Rattle.series.proofs.Sizes.{E-large}
-use Rattle.exponential.proofs.Patterns.{unitsOf}
+use Rattle.exact.proofs.PositivePatterns.{unitsOf}
 use Rattle.exponential.proofs.Accuracy.{one-value}
 use Rattle.logarithm.specs.Logarithm.{leastNormal, logOf, lnFrom, lnOf, ln1pOf}
 use Rattle.logarithm.specs.Accuracy.{IsLogarithm}

@@ -9,11 +9,11 @@ use lib.Dec.{ltb, lit≤}
 use lib.Pow.{pow-pos, pow-mono, pow-add}
 use lib.Count.{leadingZeros}
 use borrow.Author.Tests.{lt-ltb, le-ltb}
-use Rattle.exponential.proofs.Patterns.{unitsOf}
+use Rattle.exact.proofs.PositivePatterns.{unitsOf}
+use Rattle.exact.proofs.LeadingDigits.{lead}
 use Rattle.logarithm.specs.FixedPoint.{lnMantOf, twosOf}
 use Rattle.logarithm.specs.Logarithm.{logAbove, logBelow, logBits}
 use Rattle.logarithm.specs.declared.Log.the-variants.{Above, Below}
-use Rattle.logarithm.proofs.Digits.{lead}
 use Rattle.logarithm.proofs.WholeBounds.{Fixed, above, below}
 
 pub data Decoded (b : ℕ) : Type 0 where
@@ -31,7 +31,7 @@ module _ (b : ℕ) (b-pos : 0 < b) (h : b < 2 ^ 52) where
   small : Decoded b
   unfolding logBits logBelow unitsOf
   small =
-      let l = lead b b-pos h in
+      let l = lead 1 tt b b-pos h in
       let m = b * 2 ^ (z - 1) in
       under (twosOf (1011 + z) - lnMantOf m / 2048) (2 ^ (1011 + z) * 2 ^ 62) m
       (ap (λ (t : Bool). cond t (logBelow m (1011 + z)) (cond (ltb (b / 2 ^ 52) 1023) (logBelow ((b % 2 ^ 52 + 2 ^ 52) * 1024) (1023 - b / 2 ^ 52)) (logAbove ((b % 2 ^ 52 + 2 ^ 52) * 1024) (b / 2 ^ 52 - 1023)))) (lt-ltb b (2 ^ 52) h))

@@ -16,17 +16,16 @@ use Rattle.exact.specs.Float64.{+0, +1}
 use Rattle.exact.proofs.FractionLaws.{≈-refl, ≈-sym, ≤-of-≈, ≤-trans, *-cong, *-mono, *-comm, one-*}
 use Rattle.exact.proofs.FractionProver.{qv, ##, _⊞_, _⊟_, _⊠_, ⊝, req, _⊑_by_}
 use Rattle.exact.proofs.Rounding.{frac-nonneg}
+use Rattle.exact.proofs.Tests.{clash}
+use Rattle.exact.proofs.PositivePatterns.{unitsOf, units-of-pattern, bits-above}
 use Rattle.series.specs.Series.{E, Enough}
 use Rattle.series.proofs.Quotients.{_⟫_, frac-≈, frac-reciprocal}
 use Rattle.series.proofs.Order.{E-cong, E-reciprocal, E-nonneg}
 use Rattle.series.proofs.ProductLaws.{product-nonneg}
-use Rattle.exponential.proofs.Patterns.{unitsOf}
-use Rattle.exponential.proofs.Patterns as patterns
 use Rattle.exponential.proofs.FixedPoint.{value-is}
 use Rattle.logarithm.specs.Logarithm.{logBits, logOf}
 use Rattle.logarithm.specs.declared.Log.{Log}
 use Rattle.logarithm.specs.declared.Log.the-variants.{Undefined, BaseZero, BaseOne, Above, Below}
-use Rattle.logarithm.proofs.Patterns.{bits-above}
 use Rattle.logarithm.proofs.WholeBounds.{Fixed, B, D}
 use Rattle.logarithm.proofs.Enclosure.{δ, fixed, not-above, not-below}
 use Rattle.logarithm.proofs.Decoded.{Decoded, over, under, decoded}
@@ -87,9 +86,6 @@ one-itself : eq +1 +1 ≡ true
 unfolding eq ofBits
 one-itself = refl
 
-clash : {X : Type 0} → true ≡ false → X
-clash e = absurd (subst T e tt)
-
 module _ (x : Float) (t : T (fits binary64 x)) (p : lt +0 x ≡ true) (q : lt x (inf false) ≡ true) where
   abbrev b : ℕ
   b = toBits binary64 x
@@ -99,7 +95,7 @@ module _ (x : Float) (t : T (fits binary64 x)) (p : lt +0 x ≡ true) (q : lt x 
   range = bits-above x t p q
 
   pub value-of : value x ≈q unitsOf b // 2 ^ 1074
-  value-of = subst (λ (y : Float). value y ≈q unitsOf b // 2 ^ 1074) (ofBits-toBits binary64 x t) (value-is (ofBits binary64 b) (unitsOf b) (2 ^ 1074) (pow-pos 1074) (patterns.value b (range .1)))
+  value-of = subst (λ (y : Float). value y ≈q unitsOf b // 2 ^ 1074) (ofBits-toBits binary64 x t) (value-is (ofBits binary64 b) (unitsOf b) (2 ^ 1074) (pow-pos 1074) (units-of-pattern b (range .1)))
 
   from-bits : Decoded b → Logged (value x) (logBits b)
   from-bits (over v u w e F h) = subst (λ (l : Log). Logged (value x) l) (sym e) (above v (F .moderate) (enclosed-above F (value-of ⟫ frac-≈ (unitsOf b) u (pow-pos 1074) (F .divisor) h)))

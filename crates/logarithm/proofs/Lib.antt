@@ -1,9 +1,6 @@
-pub mod Arms
 pub mod Words
 pub mod Tables
 pub mod NearOne
-pub mod Digits
-pub mod Patterns
 pub mod LnMant
 pub mod Multiples
 pub mod WholeBounds

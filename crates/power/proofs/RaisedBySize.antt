@@ -11,6 +11,7 @@ use lib.Ieee.{Float, nan, inf, fin, binary64, fits, up, down, le, lt, eq, level,
 use lib.Ieee.Fits.{and-i, and-l, eq→eqb, up-pos}
 use lib.Ieee.Positive.{above, above-of-le}
 use Rattle.exact.specs.Float64.{_<f_, _=f_, +0, +1}
+use Rattle.exact.proofs.Tests.{clash}
 use Rattle.exponential.specs.Exponential.{least, fixedOf}
 use Rattle.exponential.proofs.Ranges.{cond-yes, cond-else}
 use Rattle.exponential.proofs.WholeDigits.{under-least, under-greatest, none}
@@ -27,9 +28,6 @@ not-zero s m e = is-false _ (λ h. some (suc m) (up e) (down e) (zero-lt-suc m) 
   where
     some : (m u d : ℕ) → 0 < m → 0 < u → m * u * 1 ≡ 0 * 1 * d → ⊥
     some m u d h k e = omega (arith, mul-pos h k)
-
-no-clash : {X : Type 0} → false ≡ true → X
-no-clash h = absurd (subst T (sym h) tt)
 
 -- ---- a number above zero, and one below
 abbrev pub P : ℕ → ℤ → Float
@@ -124,9 +122,9 @@ module _ (v : ℕ) (below : Bool) where
 
   pub within : (p : Float) → le least (sizeOf p) ≡ true → lt four (sizeOf p) ≡ false → powerOf (productOf (sizeOf p) v) (downOf below p) ≡ Answer p
   unfolding le lt eq ofBits neg
-  within nan g h = no-clash g
-  within (inf true) g h = no-clash (sym h)
-  within (inf false) g h = no-clash (sym h)
+  within nan g h = clash (sym g)
+  within (inf true) g h = clash h
+  within (inf false) g h = clash h
   within (fin s zero e) g h = absurd (zero-size s e g)
   within (fin false (suc m) e) g h =
       (λ i. powerOf (productOf (size-plus m e i) v) (cond (opposite (P m e) tt (plus-above m e) i) (not below) below))
@@ -139,9 +137,9 @@ module _ (v : ℕ) (below : Bool) where
 
   pub tiny : (p : Float) → T (fits binary64 p) → le least (sizeOf p) ≡ false → eq p p ≡ true → +1 ≡ Answer p
   unfolding le lt eq ofBits neg fits
-  tiny nan f g h = no-clash h
-  tiny (inf true) f g h = no-clash (sym g)
-  tiny (inf false) f g h = no-clash (sym g)
+  tiny nan f g h = clash (sym h)
+  tiny (inf true) f g h = clash g
+  tiny (inf false) f g h = clash g
   tiny (fin s zero e) f g h = cond-yes _ _ _ (zero-equal s e)
   tiny (fin false (suc m) e) f g h = small-power m e v below f (sym (ap (le least) (size-plus m e)) ∙ g) ∙ sym (plus m e)
   tiny (fin true (suc m) e) f g h = small-power m e v (not below) f (sym (ap (le least) (size-minus m e)) ∙ g) ∙ sym (minus m e)

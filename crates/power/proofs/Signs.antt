@@ -18,6 +18,7 @@ use Rattle.exact.proofs.FractionLaws.{≈-sym, ≤-of-≈, ≤-trans, neg-cong}
 use Rattle.exact.proofs.FractionProver.{qv, ##, ⊝, linq, _⊑_by_}
 use Rattle.exact.proofs.Closeness.{le-abs, neg-le-abs}
 use Rattle.exact.proofs.Comparisons.{lt→≤}
+use Rattle.exact.proofs.Tests.{clash}
 use Rattle.exact.proofs.Rounding.{neg-finite, value-neg}
 use Rattle.series.proofs.Quotients.{_⟫_}
 use Rattle.logarithm.proofs.Accuracy.{zero-finite}
@@ -48,9 +49,6 @@ four-value = record { eq = refl }
 
 minus-four-value : value minusFour ≈q negq (nat 4)
 minus-four-value = value-neg four ⟫ neg-cong four-value
-
-clash : {X : Type 0} → true ≡ false → X
-clash e = absurd (subst T e tt)
 
 module _ (p : Float) (t : T (finite p)) (h : absq (value p) ≤q nat 4) where
   pub not-above-four : lt four p ≡ false

@@ -1,25 +1,17 @@
--- Bit patterns of positive numbers: what a pattern stands for, and the pattern of q * 2 ^ k units.
+-- The bit pattern of q * 2 ^ k units of the smallest value.
 use mathlib.Core.Path.{_≡_, sym, ap, _∙_, subst}
-use mathlib.Core.Bool.{Bool, false, cond, not}
+use mathlib.Core.Bool.{Bool, false, cond}
 use mathlib.Core.Logic.{inl, inr}
-use Prim.Native.Nat.{ℕ, suc, _+_, _-_, _*_, _/_, _%_, _^_, _≤_, _<_}
+use Prim.Native.Nat.{ℕ, suc, _+_, _-_, _*_, _/_, _^_, _≤_, _<_}
 use native.Mathlib.Nat.{le-trans, le-of-eq, le-antisymm, lt-of-lt-of-le, lt-of-le-of-lt, lt-of-not-le, not-le-of-lt, mul-le-mul-right, mul-lt-mul-of-pos-right, mul-div-cancel, add-sub-cancel-left, eq-or-lt-of-le}
 use native.Mathlib.Omega.{arith}
 use lib.Dec.{T, ltb, lit<}
 use lib.Pow.{pow-pos, pow-add, pow-mono, pow-lt}
-use lib.Ieee.{Float, nan, inf, fin, binary64, up, down, size, odd, units, ofBits, toBits, fits, nanBits}
+use lib.Ieee.{Float, nan, inf, fin, binary64, up, down, size, odd, units, ofBits, toBits, fits}
 use lib.Ieee.Fits.{down-pos, odd-fits, cond-fits, inf-fits}
-use lib.Ieee.Bits.{ofBits-toBits, nanBits-above}
+use lib.Ieee.Bits.{ofBits-toBits}
 use lib.Ieee.Exact.{HasValue, units-val}
 use lib.Ieee.Digits.{size-lt, size-le}
-use borrow.Author.Tests.{le-ltb}
-
--- a pattern below that of the infinity is no NaN's
-pub no-nan : (n : ℕ) → n < 2047 * 2 ^ 52 → T (not (nanBits binary64 n))
-no-nan n h = subst (λ (b : Bool). T (not b)) (sym (nanBits-above binary64 n)) (subst (λ (b : Bool). T (not b)) (sym (le-ltb (2047 * 2 ^ 52) (n % 2 ^ 63) (below n h))) tt)
-  where
-    below : (n : ℕ) → n < 2047 * 2 ^ 52 → n % 2 ^ 63 ≤ 2047 * 2 ^ 52
-    below n h = omega arith
 
 -- ---- the pattern of q * 2 ^ k units is k * 2 ^ 52 + q, for a q of 53 digits, and for 2 ^ 53 too
 size-of : (a j l : ℕ) → suc j ≡ l → 2 ^ j ≤ a → a < 2 ^ l → size a ≡ l

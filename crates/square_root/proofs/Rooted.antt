@@ -1,5 +1,5 @@
 -- A number and its root in units of the smallest value: the root is strictly nearer than any other representable number, and its square is close to the number.
-use mathlib.Core.Path.{_≡_, sym, ap, _∙_, subst}
+use mathlib.Core.Path.{_≡_, refl, sym, ap, _∙_, subst}
 use mathlib.Core.Bool.{Bool, true, false}
 use Prim.Native.Nat.{ℕ, zero, suc, _+_, _*_, _^_, _≤_, _<_}
 use native.Mathlib.Nat.{le-trans, mul-le-mul-right, zero-lt-suc, mul-pos}
@@ -19,13 +19,14 @@ use Rattle.exact.proofs.Closeness.{within-≈, within-mono}
 use Rattle.exact.proofs.RoundingGrid.{value-finite}
 use Rattle.exact.proofs.Rounding.{value-≈}
 use Rattle.exact.proofs.Representable.{Representable}
+use Rattle.exact.proofs.PositivePatterns.{unitsOf, units-of-pattern, bits-above}
 use Rattle.square_root.specs.SquareRoot.{nearestRoot, sqrtOf}
 use Rattle.square_root.specs.CorrectlyRounded.{squareOfSum}
 use Rattle.square_root.proofs.WholeRoot.{Nearest, nearest-lo, nearest-hi}
 use Rattle.square_root.proofs.Patterns.{units-value, units-fit}
 use Rattle.square_root.proofs.RootDigits.{four-is, four-pos, nearest-of, root-of}
-use Rattle.square_root.proofs.Digits.{unitsOf, units-of-pattern, root-of-pattern, scaled-of-pattern}
-use Rattle.square_root.proofs.Cases.{zero-float, above-zero, pattern-above}
+use Rattle.square_root.proofs.Digits.{root-of-pattern, scaled-of-pattern}
+use Rattle.square_root.proofs.Cases.{above-zero}
 use Rattle.square_root.proofs.Neighbours.{Nearer, nearer}
 use Rattle.square_root.proofs.UnitFractions.{unit-<, unit-nonneg, middle-above, middle-below, square-close, smallest, units-of}
 
@@ -142,9 +143,8 @@ unfolding lt
 positive-rooted m e h =
     let x = fin false (suc m) e in
     let b = toBits binary64 x in
-    let back : ofBits binary64 b ≡ x = ofBits-toBits binary64 x h in
-    let p = pattern-above b (ap (λ (y : Float). lt zero-float y) back ∙ above-zero m e) (ap (λ (y : Float). lt y (inf false)) back) in
-    subst (λ (x : Float). Rooted x (sqrtOf x)) back (pattern-rooted b (p .0) (p .1))
+    let p = bits-above x h (above-zero m e) refl in
+    subst (λ (x : Float). Rooted x (sqrtOf x)) (ofBits-toBits binary64 x h) (pattern-rooted b (p .0) (p .1))
 
 negative : (a d : ℕ) (D : 0 < d) → 0 < a → nat 0 ≤q signed true a d D → ⊥
 unfolding nat

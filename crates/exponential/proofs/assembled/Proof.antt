@@ -2,7 +2,7 @@
 use mathlib.Core.Path.{refl}
 use native.Mathlib.Omega.{arith}
 use borrow.Author.Needs.{needs}
-use Rattle.exponential.proofs.Patterns.{no-nan}
+use Rattle.exact.proofs.PositivePatterns.{no-nan}
 use Rattle.exponential.specs.Exponential.{patternOf}
 use Rattle.exponential.proofs.assembled.Statement.{statement}
 use Rattle.exponential.proofs.assembled.Tie as tie

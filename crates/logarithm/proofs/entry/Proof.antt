@@ -2,7 +2,7 @@
 use mathlib.Core.Path.{_≡_, sym, ap}
 use Prim.Native.Nat.{ℕ}
 use lib.ListN.{getD}
-use Rattle.logarithm.proofs.Arms.{last}
+use Rattle.exponential.proofs.Arms.{last}
 use Rattle.logarithm.specs.LnTable.{inverseOf, lnTable}
 use Rattle.logarithm.proofs.entry.Statement.{statement}
 use Rattle.logarithm.proofs.entry.Tie as tie

@@ -2,9 +2,8 @@
 use mathlib.Core.Path.{refl, ap, _∙_}
 use borrow.Author.Needs.{needs}
 use lib.Ieee.{ofBits, div}
-use Rattle.exponential.proofs.Ranges.{cond-else}
+use Rattle.exponential.proofs.Ranges.{cond-then, cond-else}
 use Rattle.logarithm.specs.Logarithm.{lnFrom, lnOf}
-use Rattle.logarithm.proofs.Patterns.{cond-then}
 use Rattle.logarithm.proofs.ln.Statement.{statement}
 use Rattle.logarithm.proofs.ln.Tie as tie
 

@@ -2,9 +2,8 @@
 use mathlib.Core.Path.{refl}
 use borrow.Author.Needs.{needs}
 use lib.Ieee.{ofBits, div}
-use Rattle.exponential.proofs.Ranges.{cond-else}
+use Rattle.exponential.proofs.Ranges.{cond-then, cond-else}
 use Rattle.logarithm.specs.Logarithm.{ln1pOf}
-use Rattle.logarithm.proofs.Patterns.{cond-then}
 use Rattle.logarithm.proofs.ln_1p.Statement.{statement}
 use Rattle.logarithm.proofs.ln_1p.Tie as tie
 

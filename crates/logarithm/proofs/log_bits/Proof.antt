@@ -8,11 +8,11 @@ use lib.Bits.{and-mask, mask-lt}
 use lib.Count.{leadingZeros, leading-le}
 use mir.Facts.{fits-le, fits-lit, fits-bits}
 use borrow.Author.Tests.{lt-ltb, le-ltb}
+use Rattle.exact.proofs.LeadingDigits.{lead}
 use Rattle.exponential.proofs.Ranges.{cond-yes, cond-else}
 use Rattle.logarithm.specs.declared.Log.the-variants.{Above, Below}
 use Rattle.logarithm.specs.FixedPoint.{lnMantOf, twosOf}
 use Rattle.logarithm.specs.Logarithm.{logAbove, logBelow, logBits}
-use Rattle.logarithm.proofs.Digits.{lead}
 use Rattle.logarithm.proofs.log_bits.Statement.{statement}
 use Rattle.logarithm.proofs.log_bits.Tie as tie
 
@@ -26,10 +26,10 @@ cast-z : tie.Need-cast-z
 cast-z c = fits-le (leading-le 64 (c .before .args .bits)) (fits-lit tt)
 
 sub-log-below : tie.Need-sub-log-below
-sub-log-below c = le-trans (lit≤ tt) (lead (c .before .args .bits) (c .before .pre .0) (c .if1 .taken) .low)
+sub-log-below c = le-trans (lit≤ tt) (lead 1 tt (c .before .args .bits) (c .before .pre .0) (c .if1 .taken) .low)
 
 shl-log-below : tie.Need-shl-log-below
-shl-log-below c = shift (leadingZeros 64 (c .before .args .bits)) (lead (c .before .args .bits) (c .before .pre .0) (c .if1 .taken) .high)
+shl-log-below c = shift (leadingZeros 64 (c .before .args .bits)) (lead 1 tt (c .before .args .bits) (c .before .pre .0) (c .if1 .taken) .high)
   where
     shift : (z : ℕ) → z ≤ 63 → z - 1 < 64
     shift z h = omega arith
@@ -42,7 +42,7 @@ add-log-below c = fits-bits 64 tt (sum _ (leading-le 64 (c .before .args .bits))
 
 log-below-requires : tie.Need-log-below-requires
 log-below-requires c κs =
-    let l = lead (c .before .args .bits) (c .before .pre .0) (c .if1 .taken) in
+    let l = lead 1 tt (c .before .args .bits) (c .before .pre .0) (c .if1 .taken) in
     (subst (λ (x : ℕ). 2 ^ 62 ≤ x) (sym (l .same)) (l .from), subst (λ (x : ℕ). x < 2 ^ 63) (sym (l .same)) (l .below), low _, high _ (l .high))
   where
     low : (z : ℕ) → 0 < 1011 + z
@@ -56,7 +56,7 @@ unfolding logBits logBelow
 returns c =
     let d = c .before .before in
     let b = d .args .bits in
-    let l = lead b (d .pre .0) (c .before .if1 .taken) in
+    let l = lead 1 tt b (d .pre .0) (c .before .if1 .taken) in
     ap Below (c .log-below .ensures ∙ ap (λ (m : ℕ). twosOf (1011 + leadingZeros 64 b) - lnMantOf m / 2048) (l .same)) ∙ cond-yes _ _ _ (lt-ltb b (2 ^ 52) (c .before .if1 .taken))
 
 add-m : tie.Need-add-m

@@ -2,9 +2,9 @@
 use mathlib.Core.Path.{refl, sym, subst}
 use lib.Dec.{T}
 use lib.Ieee.{ofBits, div}
-use Rattle.exponential.proofs.Ranges.{cond-yes, cond-else}
+use Rattle.exact.proofs.PositivePatterns.{above-no-nan, bits-above}
+use Rattle.exponential.proofs.Ranges.{cond-yes, cond-then, cond-else}
 use Rattle.logarithm.specs.Logarithm.{logOf}
-use Rattle.logarithm.proofs.Patterns.{above-no-nan, bits-above, cond-then}
 use Rattle.logarithm.proofs.log_of.Statement.{statement}
 use Rattle.logarithm.proofs.log_of.Tie as tie
 

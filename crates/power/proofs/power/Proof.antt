@@ -6,8 +6,7 @@ use native.Mathlib.Omega.{arith}
 use lib.Ieee.{Float, ofBits, div}
 use borrow.Author.Tests.{lt-ltb, le-ltb}
 use Rattle.exact.specs.Float64.{_⊘_, +1}
-use Rattle.exponential.proofs.Ranges.{cond-yes, cond-else}
-use Rattle.logarithm.proofs.Patterns.{cond-then}
+use Rattle.exponential.proofs.Ranges.{cond-yes, cond-then, cond-else}
 use Rattle.power.specs.Power.{powerOf}
 use Rattle.power.proofs.power.Statement.{statement}
 use Rattle.power.proofs.power.Tie as tie

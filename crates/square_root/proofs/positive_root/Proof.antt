@@ -9,8 +9,9 @@ use lib.Dec.{lit≤}
 use lib.Bits.{and-mask, mask-lt}
 use lib.Count.{leadingZeros, leading-le}
 use mir.Facts.{fits-le, fits-lit, fits-bits}
+use Rattle.exact.proofs.LeadingDigits.{lead}
 use Rattle.square_root.specs.SquareRoot.{rootOf}
-use Rattle.square_root.proofs.Digits.{Parts, parts-subnormal, parts-normal, lead, root-of-pattern}
+use Rattle.square_root.proofs.Digits.{Parts, parts-subnormal, parts-normal, root-of-pattern}
 use Rattle.square_root.proofs.positive_root.Statement.{statement}
 use Rattle.square_root.proofs.positive_root.Tie as tie
 use Rattle.square_root.proofs.positive_root.Reads as reads
@@ -30,16 +31,16 @@ cast-z : tie.Need-cast-z
 cast-z c = fits-le (leading-le 64 (c .before .args .bits)) (fits-lit tt)
 
 sub-digits : tie.Need-sub-digits
-sub-digits c = le-trans (lit≤ tt) (lead (c .before .args .bits) (c .before .pre .0) (c .if1 .taken) .low)
+sub-digits c = le-trans (lit≤ tt) (lead 11 tt (c .before .args .bits) (c .before .pre .0) (c .if1 .taken) .low)
 
 shl-digits : tie.Need-shl-digits
-shl-digits c = shift (leadingZeros 64 (c .before .args .bits)) (lead (c .before .args .bits) (c .before .pre .0) (c .if1 .taken) .high)
+shl-digits c = shift (leadingZeros 64 (c .before .args .bits)) (lead 11 tt (c .before .args .bits) (c .before .pre .0) (c .if1 .taken) .high)
   where
     shift : (z : ℕ) → z ≤ 63 → z - 11 < 64
     shift z h = omega arith
 
 sub-e : tie.Need-sub-e
-sub-e c = le-trans (lead (c .before .args .bits) (c .before .pre .0) (c .if1 .taken) .high) (lit≤ tt)
+sub-e c = le-trans (lead 11 tt (c .before .args .bits) (c .before .pre .0) (c .if1 .taken) .high) (lit≤ tt)
 
 -- where the arms meet: the digits and the exponent of the pattern
 parts : (c : lts.Joined1 (scaled-root-reads.Asked, scaled-root-reads.Learnt) reads.Pre reads.Post) → Parts (c .before .args .bits) (c .if1 .digits) (c .if1 .e)

@@ -1,22 +1,17 @@
 -- `square_root::sqrt` meets its contract.
-use mathlib.Core.Path.{_≡_, sym, ap, _∙_, subst}
-use mathlib.Core.Bool.{true, false}
-use Prim.Native.Nat.{_*_, _^_, _<_}
+use mathlib.Core.Path.{sym, ap, _∙_, subst}
 use lib.Dec.{T}
-use lib.Ieee.{Float, binary64, ofBits, toBits, lt, inf, div}
+use lib.Ieee.{binary64, fits, ofBits, div}
 use lib.Ieee.Bits.{ofBits-toBits}
+use Rattle.exact.proofs.PositivePatterns.{no-nan, above-no-nan, bits-above}
 use Rattle.square_root.specs.SquareRoot.{sqrtOf}
-use Rattle.square_root.proofs.Patterns.{no-nan}
-use Rattle.square_root.proofs.Cases.{zero-float, above-no-nan, infinite, is-zero, otherwise, pattern-above}
+use Rattle.square_root.proofs.Cases.{infinite, is-zero, otherwise}
 use Rattle.square_root.proofs.sqrt.Statement.{statement}
 use Rattle.square_root.proofs.sqrt.Tie as tie
 
 -- what owning an `f64` tells: the format holds it
-back : (c : tie.Start) → ofBits binary64 (toBits binary64 (c .args .x)) ≡ c .args .x
-back c = ofBits-toBits binary64 (c .args .x) (subst T (sym (c .good .0 .1)) tt)
-
-range : (c : tie.Start) → lt zero-float (c .args .x) ≡ true → lt (c .args .x) (inf false) ≡ true → (0 < toBits binary64 (c .args .x)) × (toBits binary64 (c .args .x) < 2047 * 2 ^ 52)
-range c e f = pattern-above (toBits binary64 (c .args .x)) (ap (λ (y : Float). lt zero-float y) (back c) ∙ e) (ap (λ (y : Float). lt y (inf false)) (back c) ∙ f)
+held : (c : tie.Start) → T (fits binary64 (c .args .x))
+held c = subst T (sym (c .good .0 .1)) tt
 
 float-to-bits-positive-root : tie.Need-float-to-bits-positive-root
 unfolding ofBits
@@ -24,13 +19,13 @@ float-to-bits-positive-root c = above-no-nan (c .before .before .args .x) (c .be
 
 positive-root-requires : tie.Need-positive-root-requires
 unfolding ofBits div
-positive-root-requires c κs = range (c .before .before) (c .before .if1 .taken) (c .if2 .taken)
+positive-root-requires c κs = bits-above (c .before .before .args .x) (held (c .before .before)) (c .before .if1 .taken) (c .if2 .taken)
 
 float-from-bits-result : tie.Need-float-from-bits-result
 float-from-bits-result c = no-nan _ (c .positive-root .ensures .1)
 
 returns : tie.Need-returns
-returns c = c .positive-root .ensures .0 ∙ ap sqrtOf (back (c .before .before .before))
+returns c = c .positive-root .ensures .0 ∙ ap sqrtOf (ofBits-toBits binary64 (c .before .before .before .args .x) (held (c .before .before .before)))
 
 returns-2 : tie.Need-returns-2
 unfolding ofBits div
