@@ -86,7 +86,9 @@ fn main() {
     generated += &format!("pub mod models {{\n#[allow(dead_code, unused)]\n#[path = {:?}]\npub mod mosfet1;\n}}\n", out.join("mosfet1.rs"));
     fs::write(out.join("generated.rs"), generated).unwrap();
     if env::var("CARGO_PKG_NAME").unwrap() == "with_port" {
-        println!("cargo:rustc-link-search=native={}", env::var("PORT_LIBS").expect("set PORT_LIBS to the folder of libelementary.a"));
+        let libs = env::var("PORT_LIBS").expect("set PORT_LIBS to the folder of libelementary.a");
+        println!("cargo:rerun-if-changed={libs}/libelementary.a");
+        println!("cargo:rustc-link-search=native={libs}");
         println!("cargo:rustc-link-lib=static=elementary");
     }
 }
