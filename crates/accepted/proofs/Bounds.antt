@@ -9,7 +9,7 @@ use lib.Dec.{eqb}
 use lib.Ieee.{Float, lt, eq, le, add, sub, sum, round, units, odd, size, span, climb, neg, ofBits, ofFields}
 use lib.ListN.{getD}
 use Rattle.exact.specs.Float64.{_⊕_, _⊘_, +1}
-use Rattle.temperature.specs.Constants.{iceOf}
+use Rattle.temperature.specs.Temperature.{kelvinOf}
 use Rattle.temperature.specs.declared.Celsius.{Celsius}
 use Rattle.device.specs.Limits.{outsideTemperatures}
 use Rattle.keys.specs.Names.{meaningOf}
@@ -92,7 +92,7 @@ cox-in-range : {old : Float} (m : Meaning) (v : Float) → OxideFrom old → out
 cox-in-range m v h o =
     cases (isSet Cox m) OxideFrom (λ t. given (set-in-range Cox m v t o)) (cases (isSet Tox m) OxideFrom (λ t. thickness (set-in-range Tox m v t o)) h)
 
-tnom-in-range : (old : Celsius) (m : Meaning) (v : Float) → outsideTemperatures (record { 0 = old .0 ⊕ iceOf }) ≡ false → tnomOutside m v ≡ false → outsideTemperatures (record { 0 = pickTnom old m v .0 ⊕ iceOf }) ≡ false
+tnom-in-range : (old : Celsius) (m : Meaning) (v : Float) → outsideTemperatures (kelvinOf old) ≡ false → tnomOutside m v ≡ false → outsideTemperatures (kelvinOf (pickTnom old m v)) ≡ false
 tnom-in-range old (Sets k) v h o = h
 tnom-in-range old Tnom v h o = o
 tnom-in-range old Unread v h o = h

@@ -3,7 +3,7 @@ use mathlib.Core.Path.{_≡_}
 use mathlib.Core.Bool.{false}
 use lib.Ieee.{Float}
 use Rattle.exact.specs.Float64.{_⊕_, _⊘_}
-use Rattle.temperature.specs.Constants.{iceOf}
+use Rattle.temperature.specs.Temperature.{kelvinOf}
 use Rattle.device.specs.Limits.{outsideTemperatures}
 use Rattle.keys.specs.Ranges.{rangeOf, outsideRange}
 use Rattle.keys.specs.declared.Key.{Key}
@@ -46,7 +46,7 @@ pub record ParametersInRange (p : Parameters) : Type 0 where
   pub mjsw : InRange Mjsw (p .mjsw)
   pub fc : InRange Fc (p .fc)
   pub cox : OxideFrom (p .cox)
-  pub tnom : outsideTemperatures (record { 0 = p .tnom .0 ⊕ iceOf }) ≡ false
+  pub tnom : outsideTemperatures (kelvinOf (p .tnom)) ≡ false
 
 -- every size of a geometry
 pub record SizesInRange (s : Sizes) : Type 0 where

@@ -107,9 +107,9 @@ setup-never e = let z : _≡_ {A = ℕ} 0 1 = cc in omega arith
 
 abbrev pub scalingRows : Mosfet1 → Kelvin → List Row
 scalingRows d t =
-    (6 when outsideTemperatures t) ∷ (7 when potentialsLow (scaledAt (d .card) (t .0))) ∷ (10 when before (d .stage) Stage.Geometry) ∷ []
+    (6 when outsideTemperatures t) ∷ (7 when potentialsLow (scaledAt (d .card) t)) ∷ (10 when before (d .stage) Stage.Geometry) ∷ []
 
-pub scaling-done : (d : Mosfet1) (t : Kelvin) (e : Mosfet1) → scalingOf d t ≡ Setup.Done e → Passed (scalingRows d t) × (e ≡ scaledTo d (scaledAt (d .card) (t .0)))
+pub scaling-done : (d : Mosfet1) (t : Kelvin) (e : Mosfet1) → scalingOf d t ≡ Setup.Done e → Passed (scalingRows d t) × (e ≡ scaledTo d (scaledAt (d .card) t))
 unfolding scalingOf deviceLeft
 scaling-done d t e h =
     let r = unless-done (scalingRows d t) Setup.Refused _ (λ k. setup-never) h in

@@ -5,9 +5,9 @@ use mathlib.Core.List.{List, [], _∷_, _++_}
 use lib.Ieee.{Float, binary64, ofBits, neg}
 use lib.ListN.{length}
 use Rattle.exact.specs.Float64.{_⊕_, _⊖_, _⊗_, _⊘_, _>f_, +0, +1}
-use Rattle.temperature.specs.Constants.{iceOf, tnomDefaultK}
+use Rattle.temperature.specs.Temperature.{kelvinOf, tnomDefault}
 use Rattle.temperature.specs.declared.Celsius.{Celsius}
-use Rattle.device.specs.Refusals.{Row, unless, _when_}
+use Rattle.device.specs.Refusals.{Row, unless, Outcome, done, refused, _when_}
 use Rattle.device.specs.declared.Card.{Card}
 use Rattle.device.specs.declared.ChargeHistory.{ChargeHistory}
 use Rattle.device.specs.declared.Charges.{Charges}
@@ -28,7 +28,7 @@ use Rattle.keys.specs.declared.Key.the-variants.{Vto, Kp, Uo, Is, Js, Lambda, G
 use Rattle.keys.specs.declared.Meaning.{Meaning}
 use Rattle.keys.specs.declared.Meaning.the-variants.{Sets, Tnom, Unread, Unknown}
 use Rattle.keys.specs.declared.Table.the-variants as Table
-use Rattle.entries.specs.Entries.{Entry, entriesOf, unknownCount, anyTnomOutside, keyRows, listAfter}
+use Rattle.entries.specs.Entries.{Entry, entriesOf, unknownCount, anyTnomOutside, keyRows, listAfter, Keyed}
 use Rattle.card.specs.declared.CardAnswer.{CardAnswer}
 use Rattle.card.specs.declared.CardAnswer.the-variants.{Done, Refused}
 use Rattle.card.specs.declared.Parameters.{Parameters}
@@ -152,7 +152,7 @@ defaultsOf isPmos =
       mj = +0·5;
       mjsw = +0·33;
       fc = +0·5;
-      tnom = record { 0 = tnomDefaultK ⊖ iceOf };
+      tnom = tnomDefault;
       «kp_given» = false;
       «rd_given» = false;
       «rs_given» = false;
@@ -170,7 +170,7 @@ polarityOf isPmos = cond isPmos (neg +1) +1
 abbrev pub givenIf : Bool → Float → Given
 givenIf given v = cond given (Value v) Absent
 
--- the one place where the card's degrees Celsius become kelvin: the rounded sum
+-- the card's part of the device; its nominal temperature becomes kelvin
 abbrev pub cardRecordOf : Bool → Parameters → Card
 cardRecordOf isPmos p =
     record {
@@ -186,7 +186,7 @@ cardRecordOf isPmos p =
       js = p .js;
       kf = p .kf;
       af = p .af;
-      tnom = record { 0 = p .tnom .0 ⊕ iceOf };
+      tnom = kelvinOf (p .tnom);
       polarity = polarityOf isPmos;
       cgso = p .cgso;
       cgdo = p .cgdo;
@@ -319,11 +319,16 @@ abbrev pub cardRows : List ℕ → List ℕ → List ℕ → List Float → ℕ 
 cardRows bytes offsets lengths values space =
     keyRows Table.Card bytes offsets lengths values space ++ ((6 when anyTnomOutside Table.Card (entriesOf bytes offsets lengths values)) ∷ [])
 
+-- CardAnswer by its cases
+abbrev pub outcomeOfCard : CardAnswer → Outcome Keyed
+outcomeOfCard (Done d n) = done (record { device = d; unknown = n })
+outcomeOfCard (Refused n) = refused n
+
 -- the device and the count of unknown keys, or the refusal
-unfoldable pub cardOf : Bool → List ℕ → List ℕ → List ℕ → List Float → ℕ → CardAnswer
+unfoldable pub cardOf : Bool → List ℕ → List ℕ → List ℕ → List Float → ℕ → Outcome Keyed
 cardOf isPmos bytes offsets lengths values space =
     let es = entriesOf bytes offsets lengths values in
-    unless (cardRows bytes offsets lengths values space) Refused (Done (freshDevice isPmos (parametersOf (defaultsOf isPmos) es)) (unknownCount Table.Card es))
+    unless (cardRows bytes offsets lengths values space) refused (done (record { device = freshDevice isPmos (parametersOf (defaultsOf isPmos) es); unknown = unknownCount Table.Card es }))
 
 unfoldable pub cardListOf : List ℕ → List ℕ → List ℕ → List Float → List ℕ → List ℕ
 cardListOf bytes offsets lengths values list =

@@ -21,6 +21,7 @@ ghost use Rattle.card.specs.Card.{
   noHistory,
   freshHistories,
   freshDevice,
+  outcomeOfCard,
   cardOf,
   cardListOf,
 };
@@ -489,7 +490,7 @@ pub fn from_model_params(
     values: &[f64],
     unknown: &mut [usize],
 ) -> CardAnswer
-    ensures { λ r. ⌜ (r ≡ cardOf «is_pmos» (now (bytes .entry)) (now (offsets .entry)) (now (lengths .entry)) (now (values .entry)) (length (now (unknown .entry))))
+    ensures { λ r. ⌜ (outcomeOfCard r ≡ cardOf «is_pmos» (now (bytes .entry)) (now (offsets .entry)) (now (lengths .entry)) (now (values .entry)) (length (now (unknown .entry))))
         × (now (unknown .exit) ≡ cardListOf (now (bytes .entry)) (now (offsets .entry)) (now (lengths .entry)) (now (values .entry)) (now (unknown .entry))) ⌝ }
 {
     let tested = entries::test_keys(Table::Card, bytes, offsets, lengths, values, unknown.len());

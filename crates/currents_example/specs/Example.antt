@@ -5,7 +5,7 @@ use mathlib.Core.Bool.{true}
 use mathlib.Core.List.{List, [], _∷_, _++_}
 use lib.Ieee.{Float, binary64, ofBits, neg}
 use Rattle.exact.specs.Float64.{+0, +1, -1}
-use Rattle.temperature.specs.Constants.{tnomDefaultK}
+use Rattle.temperature.specs.Constants.{reftempK}
 use Rattle.temperature.specs.declared.Kelvin.{Kelvin}
 use Rattle.device.specs.declared.Discretisation.{Discretisation}
 use Rattle.device.specs.declared.Discretisation.the-variants.{Euler, Trapezoid, Gear}
@@ -86,7 +86,7 @@ geometryCall = geometry (119 ∷ 108 ∷ 97 ∷ 115 ∷ []) (0 ∷ 1 ∷ 2 ∷ [
 
 -- 300.15 K, which is the card's nominal temperature too
 abbrev pub kelvin : Kelvin
-kelvin = record { 0 = tnomDefaultK }
+kelvin = record { 0 = reftempK }
 
 -- drain 0, gate 1, source at ground, bulk 2
 abbrev pub bindingCall : Call

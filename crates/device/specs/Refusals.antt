@@ -1,6 +1,6 @@
--- A call's refusals: its rows in the order of their numbers, each with its condition, and the answer by the first that applies.
+-- A call's refusals: its rows in their order, each with its condition; and what the call answers, by the first row that applies.
 use Prim.Native.Nat.{ℕ}
-use mathlib.Core.Bool.{Bool, cond}
+use mathlib.Core.Bool.{Bool, true, false, cond}
 use mathlib.Core.List.{List, [], _∷_}
 
 -- a row's number, and whether its condition applies
@@ -10,5 +10,29 @@ pub data Row : Type 0 where
 
 -- the lowest number whose condition applies is given, and only then
 abbrev pub unless : {A : Type 0} → List Row → (ℕ → A) → A → A
-unless [] refused accepted = accepted
-unless ((n when b) ∷ rows) refused accepted = cond b (refused n) (unless rows refused accepted)
+unless [] refuse accepted = accepted
+unless ((n when b) ∷ rows) refuse accepted = cond b (refuse n) (unless rows refuse accepted)
+
+-- that number, 0 where no row applies
+abbrev pub rowNumber : List Row → ℕ
+rowNumber rows = unless rows (λ n. n) 0
+
+-- What a call answers, in the terms of the table of refusals: its values where it is accepted; its number, and nothing besides,
+-- where it is refused. Each answer type of the code is read by its cases into this one, and the contracts speak of it.
+pub data Outcome (A : Type 0) : Type 0 where
+  done : A → Outcome A
+  refused : ℕ → Outcome A
+
+-- the number of an answer: 0 where the call is accepted
+abbrev pub number : {A : Type 0} → Outcome A → ℕ
+number (done a) = 0
+number (refused n) = n
+
+abbrev pub isDone : {A : Type 0} → Outcome A → Bool
+isDone (done a) = true
+isDone (refused n) = false
+
+-- an accepted call's values; what was there before after a refusal
+abbrev pub valuesOr : {A : Type 0} → A → Outcome A → A
+valuesOr before (done a) = a
+valuesOr before (refused n) = before

@@ -15,3 +15,10 @@ stageNumber Evaluated = 4
 -- s lies before t
 abbrev pub before : Stage → Stage → Bool
 before s t = ltb (stageNumber s) (stageNumber t)
+
+-- row 10: before binding, for an evaluation; before the first evaluation, for what follows one
+unfoldable pub unbound : Stage → Bool
+unbound s = before s Bound
+
+unfoldable pub unevaluated : Stage → Bool
+unevaluated s = before s Evaluated

@@ -6,7 +6,8 @@ use lib.Dec.{leb, ltb, eqb}
 use lib.ListN.{length, getD, take, drop}
 use lib.Ieee.{Float}
 use lib.Seq.{sets}
-use Rattle.device.specs.Refusals.{Row, unless, _when_}
+use Rattle.device.specs.Refusals.{Row, unless, Outcome, done, refused, _when_}
+use Rattle.device.specs.declared.Mosfet1.{Mosfet1}
 pub use Rattle.key_pairs.specs.Pairs.{pairsAstray, badPairs}
 use Rattle.keys.specs.Names.{meaningOf}
 use Rattle.keys.specs.Ranges.{outsideOf, tnomOutside, isUnknown}
@@ -84,11 +85,25 @@ keyRows table bytes offsets lengths values space =
     ∷ (4 when anyOutside table es)
     ∷ []
 
--- the count of unknown keys and row 6 for the card's tnom, or the refusal
-unfoldable pub keysOf : Table → List ℕ → List ℕ → List ℕ → List Float → ℕ → KeysAnswer
+-- what keys that pass rows 1 to 4 leave: the count of the unknown ones, and whether row 6 refuses a tnom
+pub record KeysRead : Type 0 where
+  pub unknown : ℕ
+  pub outside : Bool
+
+-- KeysAnswer by its cases
+abbrev pub outcomeOfKeys : KeysAnswer → Outcome KeysRead
+outcomeOfKeys (Passed n b) = done (record { unknown = n; outside = b })
+outcomeOfKeys (Refused n) = refused n
+
+unfoldable pub keysOf : Table → List ℕ → List ℕ → List ℕ → List Float → ℕ → Outcome KeysRead
 keysOf table bytes offsets lengths values space =
     let es = entriesOf bytes offsets lengths values in
-    unless (keyRows table bytes offsets lengths values space) Refused (Passed (unknownCount table es) (anyTnomOutside table es))
+    unless (keyRows table bytes offsets lengths values space) refused (done (record { unknown = unknownCount table es; outside = anyTnomOutside table es }))
+
+-- what the card and the geometry call answer: the device, and the count of unknown keys
+pub record Keyed : Type 0 where
+  pub device : Mosfet1
+  pub unknown : ℕ
 
 -- the lent list after a call with these rows: the unknown keys' places in order at its front, its rest unchanged; unchanged after
 -- a refusal

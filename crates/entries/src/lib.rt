@@ -14,6 +14,7 @@ ghost use Rattle.entries.specs.Entries.{
   unknownCount,
   scanOf,
   scannedWith,
+  outcomeOfKeys,
   keysOf,
 };
 use keys::Meaning;
@@ -137,7 +138,7 @@ pub fn test_keys(
     values: &[f64],
     space: usize,
 ) -> KeysAnswer
-    ensures { λ r. ⌜ r ≡ keysOf table (now (bytes .entry)) (now (offsets .entry)) (now (lengths .entry)) (now (values .entry)) space ⌝ }
+    ensures { λ r. ⌜ outcomeOfKeys r ≡ keysOf table (now (bytes .entry)) (now (offsets .entry)) (now (lengths .entry)) (now (values .entry)) space ⌝ }
 {
     if key_pairs::bad_pairs(bytes, offsets, lengths, values) {
         return KeysAnswer::Refused(1);

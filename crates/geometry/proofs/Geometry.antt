@@ -9,19 +9,18 @@ use lib.Ieee.{Float, nan, inf, fin, binary64, lt, div, ofBits}
 use lib.ListN.{length, getD}
 use lib.Seq.{sets}
 use Rattle.exact.specs.Float64.{_⊘_, _<f_, _>f_, +0, +1}
-use Rattle.device.specs.Refusals.{Row, unless, _when_}
+use Rattle.device.specs.Refusals.{Row, unless, done, refused, _when_}
 use Rattle.device.specs.Stages.{before}
 use Rattle.device.specs.declared.Mosfet1.{Mosfet1}
 use Rattle.device.specs.declared.Stage.the-variants.{Scaled}
 use Rattle.device.proofs.Branches.{cond-yes, cond-no}
+use Rattle.device.proofs.Rows.{NoneOf, later-decide}
 use Rattle.keys.specs.Names.{meaningOf}
 use Rattle.keys.specs.declared.Table.the-variants as Table
 use Rattle.entries.specs.Entries.{entriesOf, keyAt, unknownFrom, unknownCount, keyRows, keysOf}
-use Rattle.entries.specs.declared.KeysAnswer.the-variants as Key
 use Rattle.entries.proofs.Entries.{Paired, rest, entry-step}
-use Rattle.entries.proofs.Rows.{NoneOf, later-decide, refused-keys}
+use Rattle.entries.proofs.Rows.{refused-keys}
 use Rattle.geometry.specs.Geometry.{assigned, sizesOf, finite, oxideMissing, sizedTo, sizesGiven, geometryRows, geometryOf, geometryListOf}
-use Rattle.geometry.specs.declared.GeometryAnswer.the-variants.{Done, Refused}
 use Rattle.geometry.specs.declared.Sizes.{Sizes}
 
 -- ---- finite and above 0, tested by two comparisons
@@ -65,28 +64,28 @@ module _ (d : Mosfet1) (bytes offsets lengths : List ℕ) (values : List Float) 
 
   -- what a refusal answers
   abbrev pub Refuses : ℕ → Type 0
-  Refuses n = (Refused n ≡ geometryOf d bytes offsets lengths values (length list)) × (list ≡ geometryListOf d bytes offsets lengths values list)
+  Refuses n = (refused n ≡ geometryOf d bytes offsets lengths values (length list)) × (list ≡ geometryListOf d bytes offsets lengths values list)
 
-  pub at-keys : (n : ℕ) → keysOf Table.Geometry bytes offsets lengths values (length list) ≡ Key.Refused n → Refuses n
+  pub at-keys : (n : ℕ) → keysOf Table.Geometry bytes offsets lengths values (length list) ≡ refused n → Refuses n
   unfolding geometryOf geometryListOf
   at-keys n e =
-      (refused-keys Table.Geometry bytes offsets lengths values (length list) n later Refused _ e, refused-keys Table.Geometry bytes offsets lengths values (length list) n later (λ _. list) _ e)
+      (refused-keys Table.Geometry bytes offsets lengths values (length list) n later refused _ e, refused-keys Table.Geometry bytes offsets lengths values (length list) n later (λ _. list) _ e)
 
   -- rows 1 to 4 do not apply
   module _ (h : NoneOf (keyRows Table.Geometry bytes offsets lengths values (length list))) where
-    by-later : {A : Type 0} (refused : ℕ → A) (x : A) → unless later refused x ≡ unless (geometryRows d bytes offsets lengths values (length list)) refused x
-    by-later refused x =
-        later-decide (keyRows Table.Geometry bytes offsets lengths values (length list)) later refused x h
+    by-later : {A : Type 0} (refuse : ℕ → A) (x : A) → unless later refuse x ≡ unless (geometryRows d bytes offsets lengths values (length list)) refuse x
+    by-later refuse x =
+        later-decide (keyRows Table.Geometry bytes offsets lengths values (length list)) later refuse x h
 
     pub at-5 : no-oxide ≡ true → Refuses 5
     unfolding geometryOf geometryListOf
-    at-5 t = (cond-yes _ _ t ∙ by-later Refused _, cond-yes _ _ t ∙ by-later (λ _. list) _)
+    at-5 t = (cond-yes _ _ t ∙ by-later refused _, cond-yes _ _ t ∙ by-later (λ _. list) _)
 
     module _ (five : no-oxide ≡ false) where
       pub at-10 : before Scaled (d .stage) ≡ true → Refuses 10
       unfolding geometryOf geometryListOf
-      at-10 t = (cond-yes _ _ t ∙ cond-no _ _ five ∙ by-later Refused _, cond-yes _ _ t ∙ cond-no _ _ five ∙ by-later (λ _. list) _)
+      at-10 t = (cond-yes _ _ t ∙ cond-no _ _ five ∙ by-later refused _, cond-yes _ _ t ∙ cond-no _ _ five ∙ by-later (λ _. list) _)
 
-      pub accepted : before Scaled (d .stage) ≡ false → (Done (sizedTo d (sizesGiven d bytes offsets lengths values)) (unknownCount Table.Geometry (entriesOf bytes offsets lengths values)) ≡ geometryOf d bytes offsets lengths values (length list)) × (sets list 0 (unknownFrom Table.Geometry 0 (entriesOf bytes offsets lengths values)) ≡ geometryListOf d bytes offsets lengths values list)
+      pub accepted : before Scaled (d .stage) ≡ false → (done (record { device = sizedTo d (sizesGiven d bytes offsets lengths values); unknown = unknownCount Table.Geometry (entriesOf bytes offsets lengths values) }) ≡ geometryOf d bytes offsets lengths values (length list)) × (sets list 0 (unknownFrom Table.Geometry 0 (entriesOf bytes offsets lengths values)) ≡ geometryListOf d bytes offsets lengths values list)
       unfolding geometryOf geometryListOf
-      accepted t = (cond-no _ _ t ∙ cond-no _ _ five ∙ by-later Refused _, cond-no _ _ t ∙ cond-no _ _ five ∙ by-later (λ _. list) _)
+      accepted t = (cond-no _ _ t ∙ cond-no _ _ five ∙ by-later refused _, cond-no _ _ t ∙ cond-no _ _ five ∙ by-later (λ _. list) _)

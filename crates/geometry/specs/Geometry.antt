@@ -5,7 +5,7 @@ use mathlib.Core.List.{List, [], _∷_, _++_}
 use lib.Ieee.{Float, nan, inf, fin, binary64, ofBits}
 use lib.ListN.{length}
 use Rattle.exact.specs.Float64.{_⊗_, _⊘_, _>f_, +0}
-use Rattle.device.specs.Refusals.{Row, unless, _when_}
+use Rattle.device.specs.Refusals.{Row, unless, Outcome, done, refused, _when_}
 use Rattle.device.specs.Stages.{before}
 use Rattle.device.specs.declared.Card.{Card}
 use Rattle.device.specs.declared.Geometry.{Geometry}
@@ -19,7 +19,7 @@ use Rattle.keys.specs.Picks.{pick}
 use Rattle.keys.specs.declared.Key.the-variants.{W, L, Nrd, Nrs, As, Ad, Ps, Pd}
 use Rattle.keys.specs.declared.Meaning.{Meaning}
 use Rattle.keys.specs.declared.Table.the-variants as Table
-use Rattle.entries.specs.Entries.{Entry, entriesOf, unknownCount, keyRows, listAfter}
+use Rattle.entries.specs.Entries.{Entry, entriesOf, unknownCount, keyRows, listAfter, Keyed}
 use Rattle.geometry.specs.declared.GeometryAnswer.{GeometryAnswer}
 use Rattle.geometry.specs.declared.GeometryAnswer.the-variants.{Done, Refused}
 use Rattle.geometry.specs.declared.Sizes.{Sizes}
@@ -132,10 +132,15 @@ geometryRows d bytes offsets lengths values space =
     keyRows Table.Geometry bytes offsets lengths values space
     ++ ((5 when oxideMissing (d .card .kf) (s .w) (s .l) (d .card .cox)) ∷ (10 when before Stage.Scaled (d .stage)) ∷ [])
 
+-- GeometryAnswer by its cases
+abbrev pub outcomeOfGeometry : GeometryAnswer → Outcome Keyed
+outcomeOfGeometry (Done d n) = done (record { device = d; unknown = n })
+outcomeOfGeometry (Refused n) = refused n
+
 -- the device and the count of unknown keys, or the refusal
-unfoldable pub geometryOf : Mosfet1 → List ℕ → List ℕ → List ℕ → List Float → ℕ → GeometryAnswer
+unfoldable pub geometryOf : Mosfet1 → List ℕ → List ℕ → List ℕ → List Float → ℕ → Outcome Keyed
 geometryOf d bytes offsets lengths values space =
-    unless (geometryRows d bytes offsets lengths values space) Refused (Done (sizedTo d (sizesGiven d bytes offsets lengths values)) (unknownCount Table.Geometry (entriesOf bytes offsets lengths values)))
+    unless (geometryRows d bytes offsets lengths values space) refused (done (record { device = sizedTo d (sizesGiven d bytes offsets lengths values); unknown = unknownCount Table.Geometry (entriesOf bytes offsets lengths values) }))
 
 unfoldable pub geometryListOf : Mosfet1 → List ℕ → List ℕ → List ℕ → List Float → List ℕ → List ℕ
 geometryListOf d bytes offsets lengths values list =

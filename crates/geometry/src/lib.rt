@@ -16,6 +16,7 @@ ghost use Rattle.geometry.specs.Geometry.{
   geometryRecordOf,
   geometryStage,
   sizedTo,
+  outcomeOfGeometry,
   geometryOf,
   geometryListOf,
 };
@@ -259,7 +260,7 @@ pub fn set_instance_params(
     values: &[f64],
     unknown: &mut [usize],
 ) -> GeometryAnswer
-    ensures { λ r. ⌜ (r ≡ geometryOf device (now (bytes .entry)) (now (offsets .entry)) (now (lengths .entry)) (now (values .entry)) (length (now (unknown .entry))))
+    ensures { λ r. ⌜ (outcomeOfGeometry r ≡ geometryOf device (now (bytes .entry)) (now (offsets .entry)) (now (lengths .entry)) (now (values .entry)) (length (now (unknown .entry))))
         × (now (unknown .exit) ≡ geometryListOf device (now (bytes .entry)) (now (offsets .entry)) (now (lengths .entry)) (now (values .entry)) (now (unknown .entry))) ⌝ }
 {
     let tested = entries::test_keys(

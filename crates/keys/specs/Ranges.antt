@@ -2,7 +2,7 @@
 use mathlib.Core.Bool.{Bool, true, false, not, _||_}
 use lib.Ieee.{Float, binary64, ofBits, neg}
 use Rattle.exact.specs.Float64.{_=f_, _⊕_, +0, +1}
-use Rattle.temperature.specs.Constants.{iceOf}
+use Rattle.temperature.specs.Temperature.{kelvinOf}
 use Rattle.device.specs.Limits.{within, outsideTemperatures}
 use Rattle.keys.specs.declared.Key.{Key}
 use Rattle.keys.specs.declared.Key.the-variants.{Vto, Kp, Uo, Is, Js, Lambda, Gamma, Phi, Rd, Rs, Rsh, Kf, Af, Cgso, Cgdo, Cgbo, Cox, Tox, Cj, Cjsw, Pb, Mj, Mjsw, Fc, W, L, Nrd, Nrs, As, Ad, Ps, Pd}
@@ -107,10 +107,10 @@ outsideOf Tnom v = false
 outsideOf Unread v = false
 outsideOf Unknown v = false
 
--- row 6 for a key: a tnom, in degrees Celsius, is tested in kelvin, after the rounded sum
+-- row 6 for a key: a tnom, in degrees Celsius, is tested in kelvin
 abbrev pub tnomOutside : Meaning → Float → Bool
 tnomOutside (Sets k) v = false
-tnomOutside Tnom v = outsideTemperatures (record { 0 = v ⊕ iceOf })
+tnomOutside Tnom v = outsideTemperatures (kelvinOf (record { 0 = v }))
 tnomOutside Unread v = false
 tnomOutside Unknown v = false
 

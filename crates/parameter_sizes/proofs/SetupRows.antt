@@ -24,16 +24,16 @@ device-of other (Done d) = d
 device-of other (Refused n) = other
 
 pub record ScalingAccepted (d : Mosfet1) (t : Kelvin) (after : Mosfet1) : Type 0 where
-  pub made : after ≡ scaledTo d (scaledAt (d .card) (t .0))
+  pub made : after ≡ scaledTo d (scaledAt (d .card) t)
   pub row-6 : outsideTemperatures t ≡ false
-  pub row-7 : potentialsLow (scaledAt (d .card) (t .0)) ≡ false
+  pub row-7 : potentialsLow (scaledAt (d .card) t) ≡ false
   pub row-10 : before (d .stage) Stage.Geometry ≡ false
 
 pub scaling-accepted : (d : Mosfet1) (t : Kelvin) (after : Mosfet1) → scalingOf d t ≡ Done after → ScalingAccepted d t after
 unfolding scalingOf device-of
 scaling-accepted d t after e =
     let six = not-refused (outsideTemperatures t) (Refused 6) never e in
-    let seven = not-refused (potentialsLow (scaledAt (d .card) (t .0))) (Refused 7) never (six .1) in
+    let seven = not-refused (potentialsLow (scaledAt (d .card) t)) (Refused 7) never (six .1) in
     let ten = not-refused (before (d .stage) Stage.Geometry) (Refused 10) never (seven .1) in
     record { made = sym (ap (device-of d) (ten .1)); row-6 = six .0; row-7 = seven .0; row-10 = ten .0 }
 

@@ -10,7 +10,7 @@ ghost use Rattle.temperature.specs.Temperature.{scaledPhiOf, scaledJunctionPote
 
 // The part of a potential that does not move with temperature: pbfact is taken out at tnom.
 fn phio(phi_nom: f64, tnom: Kelvin) -> f64
-    ensures { λ r. ⌜ r ≡ phioOf «phi_nom» (tnom .0) ⌝ }
+    ensures { λ r. ⌜ r ≡ phioOf «phi_nom» tnom ⌝ }
 {
     let fact1 = tnom.0 / REFTEMP_K;
     (phi_nom - pbfact(tnom)) / fact1
@@ -18,7 +18,7 @@ fn phio(phi_nom: f64, tnom: Kelvin) -> f64
 
 // The surface potential at t, from the nominal one.
 pub fn scaled_phi(phi_nom: f64, t: Kelvin, tnom: Kelvin) -> f64
-    ensures { λ r. ⌜ r ≡ scaledPhiOf «phi_nom» (t .0) (tnom .0) ⌝ }
+    ensures { λ r. ⌜ r ≡ scaledPhiOf «phi_nom» t tnom ⌝ }
 {
     if t.0 <= 0.0 || tnom.0 <= 0.0 {
         return phi_nom;
@@ -28,14 +28,14 @@ pub fn scaled_phi(phi_nom: f64, t: Kelvin, tnom: Kelvin) -> f64
 
 // A junction's built-in potential at t, by the same law.
 pub fn scaled_junction_potential(vj_nom: f64, t: Kelvin, tnom: Kelvin) -> f64
-    ensures { λ r. ⌜ r ≡ scaledJunctionPotentialOf «vj_nom» (t .0) (tnom .0) ⌝ }
+    ensures { λ r. ⌜ r ≡ scaledJunctionPotentialOf «vj_nom» t tnom ⌝ }
 {
     scaled_phi(vj_nom, t, tnom)
 }
 
 // One half of the capacitance's law, at tnom with the nominal potential and at t with the scaled one.
 fn cap_term(vj: f64, m: f64, pbo: f64, t: Kelvin) -> f64
-    ensures { λ r. ⌜ r ≡ capTermOf vj m pbo (t .0) ⌝ }
+    ensures { λ r. ⌜ r ≡ capTermOf vj m pbo t ⌝ }
 {
     let gma = (vj - pbo) / pbo;
     1.0 + m * (4e-4 * (t.0 - REFTEMP_K) - gma)
@@ -43,7 +43,7 @@ fn cap_term(vj: f64, m: f64, pbo: f64, t: Kelvin) -> f64
 
 // The factor of a zero-bias junction capacitance. The divisor can be negative, and close to 0.
 pub fn junction_cap_factor(vj_nom: f64, m: f64, t: Kelvin, tnom: Kelvin) -> f64
-    ensures { λ r. ⌜ r ≡ junctionCapFactorOf «vj_nom» m (t .0) (tnom .0) ⌝ }
+    ensures { λ r. ⌜ r ≡ junctionCapFactorOf «vj_nom» m t tnom ⌝ }
 {
     if t.0 <= 0.0 || tnom.0 <= 0.0 || vj_nom <= 0.0 {
         return 1.0;
@@ -77,7 +77,7 @@ pub fn scaled_vto(
     tnom: Kelvin,
     is_pmos: bool,
 ) -> f64
-    ensures { λ r. ⌜ r ≡ scaledVtoOf vto gamma «phi_nom» «phi_t» (t .0) (tnom .0) «is_pmos» ⌝ }
+    ensures { λ r. ⌜ r ≡ scaledVtoOf vto gamma «phi_nom» «phi_t» t tnom «is_pmos» ⌝ }
 {
     let ty = if is_pmos { -1.0 } else { 1.0 };
     let vbi = vto - body_term(ty, gamma, phi_nom)

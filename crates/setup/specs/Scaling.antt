@@ -1,12 +1,12 @@
 -- Scaling: the parameters at a temperature, derived from the card alone, so that a second scaling does not compound the first.
 use mathlib.Core.Bool.{Bool, cond, _||_}
-use mathlib.Core.List.{[], _∷_}
+use mathlib.Core.List.{List, [], _∷_}
 use lib.Ieee.{Float, binary64, ofBits}
 use Rattle.exact.specs.Float64.{_⊗_, _<f_, +0}
 use Rattle.temperature.specs.Temperature.{mosJunctionIsFactorOf, mobilityFactorOf, scaledPhiOf, scaledJunctionPotentialOf, junctionCapFactorOf, scaledVtoOf}
 use Rattle.temperature.specs.declared.Kelvin.{Kelvin}
 use Rattle.device.specs.Limits.{outsideTemperatures}
-use Rattle.device.specs.Refusals.{unless, _when_}
+use Rattle.device.specs.Refusals.{Row, unless, Outcome, refused, done, _when_}
 use Rattle.device.specs.Stages.{before}
 use Rattle.device.specs.declared.Card.{Card}
 use Rattle.device.specs.declared.Mosfet1.{Mosfet1}
@@ -17,9 +17,9 @@ use Rattle.setup.specs.declared.SetupAnswer.{SetupAnswer}
 use Rattle.setup.specs.declared.SetupAnswer.the-variants.{Done, Refused}
 
 -- the formulas of `setup_model`; a polarity below 0 is PMOS
-abbrev pub scaledAt : Card → Float → Scaled
+abbrev pub scaledAt : Card → Kelvin → Scaled
 scaledAt c t =
-    let tnom = c .tnom .0 in
+    let tnom = c .tnom in
     let phiT = scaledPhiOf (c .phi) t tnom in
     record {
       «isat_t_factor» = mosJunctionIsFactorOf t tnom;
@@ -57,8 +57,16 @@ scaledTo d s =
       stage = scaledStage (d .stage);
     }
 
--- the scaling call; row 10: before the geometry
-unfoldable pub scalingOf : Mosfet1 → Kelvin → SetupAnswer
-scalingOf d t =
-    let s = scaledAt (d .card) (t .0) in
-    unless ((6 when outsideTemperatures t) ∷ (7 when potentialsLow s) ∷ (10 when before (d .stage) Stage.Geometry) ∷ []) Refused (Done (scaledTo d s))
+-- SetupAnswer by its cases, for scaling and for binding
+abbrev pub outcomeOfSetup : SetupAnswer → Outcome Mosfet1
+outcomeOfSetup (Done d) = done d
+outcomeOfSetup (Refused n) = refused n
+
+-- its refusals; row 10: before the geometry
+abbrev pub scalingRows : Mosfet1 → Kelvin → List Row
+scalingRows d t =
+    (6 when outsideTemperatures t) ∷ (7 when potentialsLow (scaledAt (d .card) t)) ∷ (10 when before (d .stage) Stage.Geometry) ∷ []
+
+-- the scaling call
+unfoldable pub scalingOf : Mosfet1 → Kelvin → Outcome Mosfet1
+scalingOf d t = unless (scalingRows d t) refused (done (scaledTo d (scaledAt (d .card) t)))

@@ -2,11 +2,13 @@
 // `bind_extra_nodes` of mosfet1.rs).
 ghost use mathlib.Core.Path.{_≡_};
 ghost use Prim.Native.Nat.{_+_, _<_, _^_};
+ghost use Rattle.device.specs.Nodes.{nodeBeyond, anyNodeBeyond};
 ghost use Rattle.setup.specs.Scaling.{
   scaledAt,
   potentialsLow,
   scaledStage,
   scaledTo,
+  outcomeOfSetup,
   scalingOf,
 };
 ghost use Rattle.setup.specs.Binding.{
@@ -15,8 +17,7 @@ ghost use Rattle.setup.specs.Binding.{
   innerDrain,
   innerSource,
   terminalsOf,
-  beyond,
-  anyBeyond,
+  nodeLimit,
   outsideBinding,
   boundTo,
   bindingOf,
@@ -37,7 +38,7 @@ pub enum SetupAnswer {
 
 // The parameters at a temperature, from the card's.
 fn scaled_at(card: Card, t: Kelvin) -> Scaled
-    ensures { λ r. ⌜ r ≡ scaledAt card (t .0) ⌝ }
+    ensures { λ r. ⌜ r ≡ scaledAt card t ⌝ }
 {
     let tnom = card.tnom;
     let phi_t = scaling::scaled_phi(card.phi, t, tnom);
@@ -102,7 +103,7 @@ fn scaled_to(device: Mosfet1, scaled: Scaled) -> Mosfet1
 
 // Scales the device's parameters to a temperature.
 pub fn setup_model(device: Mosfet1, temperature: Kelvin) -> SetupAnswer
-    ensures { λ r. ⌜ r ≡ scalingOf device temperature ⌝ }
+    ensures { λ r. ⌜ outcomeOfSetup r ≡ scalingOf device temperature ⌝ }
 {
     if device::outside_temperatures(temperature) {
         return SetupAnswer::Refused(6);
@@ -178,39 +179,39 @@ fn terminals(
 
 // Whether a node's number is above 2^32 - 1.
 fn beyond(node: NodeId) -> bool
-    ensures { λ r. ⌜ r ≡ beyond node ⌝ }
+    ensures { λ r. ⌜ r ≡ nodeBeyond nodeLimit node ⌝ }
 {
     match node {
         NodeId::Ground => false,
-        NodeId::At(n) => 4294967295 < n,
+        NodeId::At(n) => 4294967296 <= n,
     }
 }
 
 fn any_beyond(t: Terminals) -> bool
-    ensures { λ r. ⌜ r ≡ anyBeyond t ⌝ }
+    ensures { λ r. ⌜ r ≡ anyNodeBeyond nodeLimit t ⌝ }
 {
-    let drain = t.drain;
-    if beyond(drain) {
+    let drain_ext = t.drain_ext;
+    if beyond(drain_ext) {
         return true;
     }
-    let source = t.source;
-    if beyond(source) {
+    let source_ext = t.source_ext;
+    if beyond(source_ext) {
+        return true;
+    }
+    let drain = t.drain;
+    if beyond(drain) {
         return true;
     }
     let gate = t.gate;
     if beyond(gate) {
         return true;
     }
+    let source = t.source;
+    if beyond(source) {
+        return true;
+    }
     let bulk = t.bulk;
-    if beyond(bulk) {
-        return true;
-    }
-    let drain_ext = t.drain_ext;
-    if beyond(drain_ext) {
-        return true;
-    }
-    let source_ext = t.source_ext;
-    beyond(source_ext)
+    beyond(bulk)
 }
 
 // The device with its terminals, ready for evaluation.
@@ -257,7 +258,7 @@ pub fn setup_instance(
     bulk: NodeId,
     first: usize,
 ) -> SetupAnswer
-    ensures { λ r. ⌜ r ≡ bindingOf device drain gate source bulk first ⌝ }
+    ensures { λ r. ⌜ outcomeOfSetup r ≡ bindingOf device drain gate source bulk first ⌝ }
 {
     let rd = device.geometry.rd;
     let rs = device.geometry.rs;

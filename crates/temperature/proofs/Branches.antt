@@ -3,7 +3,6 @@ use mathlib.Core.Path.{_≡_, refl, sym, ap, _∙_}
 use mathlib.Core.Bool.{Bool, true, false, _||_, cond}
 use lib.Ieee.{Float}
 use Rattle.exact.specs.Float64.{_≤f_, +0}
-use Rattle.temperature.specs.Temperature.{unlessAbove0}
 
 pub yes : {b : Bool} (x y : Float) → b ≡ true → x ≡ cond b x y
 yes x y e = ap (λ (b : Bool). cond b x y) (sym e)
@@ -19,11 +18,11 @@ pub or-neither : {a b : Bool} → a ≡ false → b ≡ false → a || b ≡ fal
 or-neither {a} {b} e f = ap (λ (a : Bool). a || b) e ∙ f
 
 -- the test of both temperatures, by its first part, by its second, and failed
-pub first : (t tnom x y : Float) → (t ≤f +0) ≡ true → x ≡ unlessAbove0 t tnom x y
+pub first : (t tnom x y : Float) → (t ≤f +0) ≡ true → x ≡ cond ((t ≤f +0) || (tnom ≤f +0)) x y
 first t tnom x y e = yes x y (ap (λ (a : Bool). a || (tnom ≤f +0)) e)
 
-pub second : (t tnom x y : Float) → (tnom ≤f +0) ≡ true → x ≡ unlessAbove0 t tnom x y
+pub second : (t tnom x y : Float) → (tnom ≤f +0) ≡ true → x ≡ cond ((t ≤f +0) || (tnom ≤f +0)) x y
 second t tnom x y e = yes x y (or-second (t ≤f +0) e)
 
-pub neither : (t tnom x y : Float) → (t ≤f +0) ≡ false → (tnom ≤f +0) ≡ false → y ≡ unlessAbove0 t tnom x y
+pub neither : (t tnom x y : Float) → (t ≤f +0) ≡ false → (tnom ≤f +0) ≡ false → y ≡ cond ((t ≤f +0) || (tnom ≤f +0)) x y
 neither t tnom x y e f = no x y (or-neither e f)

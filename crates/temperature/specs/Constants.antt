@@ -2,8 +2,8 @@
 use lib.Ieee.{Float, binary64, ofBits}
 
 -- 273.15, degrees Celsius to kelvin
-abbrev pub iceOf : Float
-iceOf = ofBits binary64 0x4071_1266_6666_6666
+abbrev pub ice : Float
+ice = ofBits binary64 0x4071_1266_6666_6666
 
 -- BOLTZ, 1.3806226e-23 J/K: SPICE3's Boltzmann constant, not device.rs's
 abbrev pub boltz : Float
@@ -17,9 +17,9 @@ charge = ofBits binary64 0x3c07_a4e8_d3f7_8991
 abbrev pub reftempK : Float
 reftempK = ofBits binary64 0x4072_c266_6666_6666
 
--- TNOM_DEFAULT_K, 300.15 K: a card's nominal temperature where it gives none
-abbrev pub tnomDefaultK : Float
-tnomDefaultK = ofBits binary64 0x4072_c266_6666_6666
+-- 27, in degrees Celsius: TNOM_DEFAULT_K, 300.15 K, less 273.15 is exactly this
+abbrev pub +27 : Float
++27 = ofBits binary64 0x403b_0000_0000_0000
 
 -- the bandgap fit's 1.16 eV, 7.02e-4 eV/K and 1108 K
 abbrev pub gap0 : Float

@@ -4,9 +4,7 @@ use elementary::exp;
 use elementary::ln;
 use elementary::pow;
 ghost use mathlib.Core.Path.{_≡_};
-ghost use Rattle.exact.specs.Float64.{_⊕_, _⊖_};
-ghost use Rattle.temperature.specs.Constants.{iceOf, tnomDefaultK};
-ghost use Rattle.temperature.specs.Temperature.{bandgapEvOf, mosJunctionIsFactorOf, pbfactOf, mobilityFactorOf};
+ghost use Rattle.temperature.specs.Temperature.{kelvinOf, tnomDefault, bandgapEvOf, mosJunctionIsFactorOf, pbfactOf, mobilityFactorOf};
 
 // SPICE3's Boltzmann constant and electron charge: the fits below were made with these digits.
 const BOLTZ: f64 = 1.3806226e-23;
@@ -16,9 +14,6 @@ const CHARGE: f64 = 1.6021918e-19;
 // The temperature that the fits refer to, 27 °C.
 pub const REFTEMP_K: f64 = 300.15;
 
-// A card's nominal temperature where it gives none, 27 °C.
-pub const TNOM_DEFAULT_K: f64 = 300.15;
-
 // A temperature in degrees Celsius, as a card gives it.
 pub struct Celsius(pub f64);
 
@@ -27,21 +22,21 @@ pub struct Kelvin(pub f64);
 
 // The one place where degrees Celsius become kelvin.
 pub fn to_kelvin(c: Celsius) -> Kelvin
-    ensures { λ r. ⌜ r .0 ≡ c .0 ⊕ iceOf ⌝ }
+    ensures { λ r. ⌜ r ≡ kelvinOf c ⌝ }
 {
     Kelvin(c.0 + 273.15)
 }
 
-// The nominal temperature of a card that gives none, as a card would give it.
+// The nominal temperature of a card that gives none, as a card would give it (the Rust's `TNOM_DEFAULT_K`, 300.15 K).
 pub fn tnom_default() -> Celsius
-    ensures { λ r. ⌜ r .0 ≡ tnomDefaultK ⊖ iceOf ⌝ }
+    ensures { λ r. ⌜ r ≡ tnomDefault ⌝ }
 {
-    Celsius(TNOM_DEFAULT_K - 273.15)
+    Celsius(27.0)
 }
 
 // Silicon's bandgap in eV, the SPICE3 fit.
 pub fn bandgap_ev(t: Kelvin) -> f64
-    ensures { λ r. ⌜ r ≡ bandgapEvOf (t .0) ⌝ }
+    ensures { λ r. ⌜ r ≡ bandgapEvOf t ⌝ }
 {
     let t = t.0;
     1.16 - (7.02e-4 * t * t) / (t + 1108.0)
@@ -49,7 +44,7 @@ pub fn bandgap_ev(t: Kelvin) -> f64
 
 // The factor of a bulk junction's saturation current.
 pub fn mos_junction_is_factor(t: Kelvin, tnom: Kelvin) -> f64
-    ensures { λ r. ⌜ r ≡ mosJunctionIsFactorOf (t .0) (tnom .0) ⌝ }
+    ensures { λ r. ⌜ r ≡ mosJunctionIsFactorOf t tnom ⌝ }
 {
     if t.0 <= 0.0 || tnom.0 <= 0.0 {
         return 1.0;
@@ -61,7 +56,7 @@ pub fn mos_junction_is_factor(t: Kelvin, tnom: Kelvin) -> f64
 
 // The built-in potential's temperature term.
 pub fn pbfact(t: Kelvin) -> f64
-    ensures { λ r. ⌜ r ≡ pbfactOf (t .0) ⌝ }
+    ensures { λ r. ⌜ r ≡ pbfactOf t ⌝ }
 {
     let vt = t.0 * BOLTZ / CHARGE;
     let arg = -bandgap_ev(t) / (2.0 * BOLTZ * t.0) + 1.1150877 / (BOLTZ * 2.0 * REFTEMP_K);
@@ -70,7 +65,7 @@ pub fn pbfact(t: Kelvin) -> f64
 
 // The factor of KP.
 pub fn mobility_factor(t: Kelvin, tnom: Kelvin) -> f64
-    ensures { λ r. ⌜ r ≡ mobilityFactorOf (t .0) (tnom .0) ⌝ }
+    ensures { λ r. ⌜ r ≡ mobilityFactorOf t tnom ⌝ }
 {
     if t.0 <= 0.0 || tnom.0 <= 0.0 {
         return 1.0;

@@ -20,6 +20,7 @@ use Rattle.exact.proofs.Comparisons.{≈→eq}
 use Rattle.exact.proofs.Constants.{value-+0}
 use Rattle.exact.proofs.Rounding.{Rounded, finite-of, add-rounded, div-rounded}
 use Rattle.temperature.specs.Constants.{reftempK, capSlope}
+use Rattle.temperature.specs.declared.Kelvin.{Kelvin}
 use Rattle.temperature.specs.Temperature.{pbfactOf, phioOf, capTermOf, junctionCapFactorOf}
 use Rattle.exact.specs.Size.{Range}
 use Rattle.exact.proofs.Computing.{computing}
@@ -83,7 +84,7 @@ dividend-not-zero x y p q pos nz e =
     nz (zero-rounded (div-rounded binary64 x y (nat 0) p q (not-≈-of-> pos) (≈-trans (req (value y ∷ []) (## 0 ⊠ qv 0) (## 0) tt tt) (≈-sym e))) (≈-refl (nat 0)))
 
 -- ---- pbo: 0, or at least 2 ^ -60 in size
-module _ {vj : Float} (f : T (fits binary64 vj)) (P : Nominal vj) {tnom : Float} (N : Ordinary tnom) where
+module _ {vj : Float} (f : T (fits binary64 vj)) (P : Nominal vj) {tnom : Kelvin} (N : Ordinary tnom) where
   pub phio-at-least : (phioOf vj tnom =f +0) ≡ false → Away (phioOf vj tnom) (1 // 2 ^ 60)
   unfolding phioOf sub computing
   phio-at-least e =
@@ -91,7 +92,7 @@ module _ {vj : Float} (f : T (fits binary64 vj)) (P : Nominal vj) {tnom : Float}
       let p = pbfact-range N in
       let D = in-⊖ (negq (116 // 100)) (112 // 10) P p tt in
       let pos = <-≤-trans (lit-< tt) (F .above) in
-      let nz = dividend-not-zero (vj ⊖ pbfactOf tnom) (tnom ⊘ reftempK) (D .fin) (F .fin) pos (not-zero (phioOf vj tnom) (phio-range P N .fin) e) in
+      let nz = dividend-not-zero (vj ⊖ pbfactOf tnom) (tnom .0 ⊘ reftempK) (D .fin) (F .fin) pos (not-zero (phioOf vj tnom) (phio-range P N .fin) e) in
       let L = sum-at-least 4 (1 // 2 ^ 58) P (range-neg p) f (neg-fits binary64 (pbfactOf tnom) (pbfact-fits tnom)) (≤-trans (lit-≤ tt) (≤-trans (P .above) (le-abs (value vj)))) tt nz in
       quotient-at-least (1 // 2 ^ 60) D L F tt
 
@@ -99,12 +100,12 @@ module _ {vj : Float} (f : T (fits binary64 vj)) (P : Nominal vj) {tnom : Float}
 abbrev term-bound : ℚ
 term-bound = nat (34 * 2 ^ 60)
 
-module _ {vj m pbo t : Float} (P : Range vj (negq (nat 5)) (nat 32)) (M : Range m (nat 0) (91 // 100)) (Q : Range pbo (negq (18 // 10)) (nat 18)) (L : Away pbo (1 // 2 ^ 60)) (K : Ordinary t) where
-  slope-term : Range (m ⊗ (capSlope ⊗ (t ⊖ reftempK) ⊖ (vj ⊖ pbo) ⊘ pbo)) (negq (nat (33 * 2 ^ 60))) (nat (33 * 2 ^ 60))
+module _ {vj m pbo : Float} {t : Kelvin} (P : Range vj (negq (nat 5)) (nat 32)) (M : Range m (nat 0) (91 // 100)) (Q : Range pbo (negq (18 // 10)) (nat 18)) (L : Away pbo (1 // 2 ^ 60)) (K : Ordinary t) where
+  slope-term : Range (m ⊗ (capSlope ⊗ (t .0 ⊖ reftempK) ⊖ (vj ⊖ pbo) ⊘ pbo)) (negq (nat (33 * 2 ^ 60))) (nat (33 * 2 ^ 60))
   unfolding computing
   slope-term =
       let slope = constant-in 0x3f3a_36e2_eb1c_432d (3 // 10000) (5 // 10000) tt in
-      let warm = in-⊗ (negq (nat 1)) (nat 1) slope (in-⊖ (negq (nat 101)) (nat 200) K reftemp-range tt) tt in
+      let warm = in-⊗ (negq (nat 1)) (nat 1) slope (in-⊖ (negq (nat 101)) (nat 200) (K .range) reftemp-range tt) tt in
       let gma = size-quotient (nat (35 * 2 ^ 60)) (in-⊖ (negq (nat 34)) (nat 34) P Q tt) L tt in
       in-⊗ (negq (nat (33 * 2 ^ 60))) (nat (33 * 2 ^ 60)) M (in-⊖ (negq (nat (36 * 2 ^ 60))) (nat (36 * 2 ^ 60)) warm gma tt) tt
 
@@ -124,13 +125,13 @@ by-test true f g = f refl
 by-test false f g = g refl
 
 -- at most 2 ^ 120 in size
-module _ {vj m : Float} (f : T (fits binary64 vj)) (P : Nominal vj) (M : Range m (nat 0) (91 // 100)) {t tnom : Float} (K : Ordinary t) (N : Ordinary tnom) where
+module _ {vj m : Float} (f : T (fits binary64 vj)) (P : Nominal vj) (M : Range m (nat 0) (91 // 100)) {t tnom : Kelvin} (K : Ordinary t) (N : Ordinary tnom) where
   pub cap-factor-range : Range (junctionCapFactorOf vj m t tnom) (negq (nat (2 ^ 120))) (nat (2 ^ 120))
   unfolding junctionCapFactorOf computing
   cap-factor-range =
       let one = range-weaken one-range (lit-≤ tt) (lit-≤ tt) in
       let Q = phio-range P N in
-      by-test ((t ≤f +0) || (tnom ≤f +0) || (vj ≤f +0)) (λ _. one)
+      by-test ((t .0 ≤f +0) || (tnom .0 ≤f +0) || (vj ≤f +0)) (λ _. one)
       (λ _. by-test (phioOf vj tnom =f +0) (λ _. one)
       (λ e.
       let L = phio-at-least f P N e in

@@ -9,6 +9,7 @@ use Rattle.exact.proofs.FractionLaws.{lit-≤}
 use Rattle.exact.proofs.StrictOrder.{lit-<}
 use Rattle.exact.proofs.Computing.{computing}
 use Rattle.exact.proofs.Ranges.{range-atMost, range-atLeast, range-positive}
+use Rattle.temperature.specs.declared.Kelvin.{Kelvin}
 use Rattle.temperature.specs.Temperature.{bandgapEvOf, mosJunctionIsFactorOf, pbfactOf, mobilityFactorOf, scaledPhiOf, junctionCapFactorOf, scaledVtoOf}
 use Rattle.temperature_sizes.proofs.Bandgap.{Ordinary, bandgap-range}
 use Rattle.temperature_sizes.proofs.Potentials.{Nominal, pbfact-range, scaled-phi-range}
@@ -16,7 +17,7 @@ use Rattle.temperature_sizes.proofs.Factors.{is-factor-range, mobility-
 use Rattle.temperature_sizes.proofs.CapFactor.{cap-factor-range}
 use Rattle.temperature_sizes.proofs.Threshold.{scaled-vto-range}
 
-module _ {t : Float} (K : Ordinary t) where
+module _ {t : Kelvin} (K : Ordinary t) where
   pub bandgap-positive : Positive (bandgapEvOf t)
   unfolding computing
   bandgap-positive = range-positive (bandgap-range K) (lit-< tt)
@@ -29,7 +30,7 @@ module _ {t : Float} (K : Ordinary t) where
   unfolding computing
   pbfact-atMost = range-atMost (pbfact-range K) (pos 1) (lit-≤ tt) (lit-≤ tt)
 
-  module _ {tnom : Float} (N : Ordinary tnom) where
+  module _ {tnom : Kelvin} (N : Ordinary tnom) where
     pub is-factor-positive : Positive (mosJunctionIsFactorOf t tnom)
     unfolding computing
     is-factor-positive = range-positive (is-factor-range K N) (lit-< tt)

@@ -12,6 +12,7 @@ use Rattle.exact.proofs.Constants.{value-+0}
 use Rattle.elementary.specs.Functions.{sqrtOf}
 use Rattle.temperature.specs.Temperature.{scaledVtoOf, bodyTermOf, typeOf}
 use Rattle.temperature.specs.Constants.{half}
+use Rattle.temperature.specs.declared.Kelvin.{Kelvin}
 use Rattle.exact.specs.Size.{Range}
 use Rattle.exact.proofs.Computing.{computing}
 use Rattle.exact.proofs.Ranges.{range-weaken, range-neg}
@@ -64,7 +65,7 @@ module _ (isPmos : Bool) {vto gamma phi phiT : Float} (U : Range vto (negq (nat 
       (root-range (91 // 16) tt g Q) tt
 
   -- at most 2 ^ 10 in size
-  pub scaled-vto-range : {t tnom : Float} → Ordinary t → Ordinary tnom → Range (scaledVtoOf vto gamma phi phiT t tnom isPmos) (negq (nat 1024)) (nat 1024)
+  pub scaled-vto-range : {t tnom : Kelvin} → Ordinary t → Ordinary tnom → Range (scaledVtoOf vto gamma phi phiT t tnom isPmos) (negq (nat 1024)) (nat 1024)
   unfolding scaledVtoOf computing
   scaled-vto-range K N =
       let gap = in-⊗ (negq (1 // 10)) (1 // 10) half-range (in-⊖ (negq (14 // 100)) (14 // 100) (bandgap-range N) (bandgap-range K) tt) tt in

@@ -1,6 +1,5 @@
 -- `card::card_record` meets its contract.
 -- Assumes nothing.
-use Rattle.card.proofs.Card.{kelvin-is}
 use borrow.Author.Needs.{needs}
 use Rattle.card.proofs.card_record.Statement.{statement}
 use Rattle.card.proofs.card_record.Tie as tie
@@ -21,7 +20,7 @@ polarity-requires : tie.Need-polarity-requires
 polarity-requires c κs = search needs
 
 returns : tie.Need-returns
-returns c = rw (c .polarity .ensures, c .before .kp-of .ensures, c .before .before .given-if2 .ensures, c .before .before .before .given-if .ensures, kelvin-is (c .before .before .before .before .to-kelvin .ensures))
+returns c = rw (c .polarity .ensures, c .before .kp-of .ensures, c .before .before .given-if2 .ensures, c .before .before .before .given-if .ensures, c .before .before .before .before .to-kelvin .ensures)
 
 pub card-record-spec : {M : Type 1} → statement M
 card-record-spec =

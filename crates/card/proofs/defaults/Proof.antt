@@ -1,7 +1,6 @@
 -- `card::defaults` meets its contract.
 -- Assumes nothing.
 use borrow.Author.Needs.{needs}
-use Rattle.card.proofs.Card.{celsius-is}
 use Rattle.card.proofs.defaults.Statement.{statement}
 use Rattle.card.proofs.defaults.Tie as tie
 
@@ -12,7 +11,7 @@ tnom-default-requires : tie.Need-tnom-default-requires
 tnom-default-requires c κs = search needs
 
 returns : tie.Need-returns
-returns c = rw (c .before .default-vto .ensures, celsius-is (c .tnom-default .ensures))
+returns c = rw (c .before .default-vto .ensures, c .tnom-default .ensures)
 
 pub defaults-spec : {M : Type 1} → statement M
 defaults-spec = tie.close (tie.spec default-vto-requires tnom-default-requires returns)

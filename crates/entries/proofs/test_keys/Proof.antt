@@ -1,15 +1,15 @@
 -- `entries::test_keys` meets its contract: each answer follows from the tests on the way.
 -- Assumes nothing.
-use mathlib.Core.Path.{_≡_, _∙_, ap, ap₂, subst}
+use mathlib.Core.Path.{_≡_, _∙_, ap, subst}
 use mathlib.Core.Bool.{Bool, false}
 use mathlib.Core.List.{List}
 use Prim.Native.Nat.{ℕ, _<_, _≤_}
 use borrow.Author.Needs.{needs}
 use borrow.Author.Tests.{lt-ltb, le-ltb}
 use lib.Dec.{ltb}
+use Rattle.device.specs.Refusals.{done}
 use Rattle.device.proofs.Branches.{cond-yes, cond-no, tested}
 use Rattle.entries.specs.Entries.{Entry, entriesOf, badPairs, anyBeyondAscii, unknownCount, anyOutside, anyTnomOutside, keysOf}
-use Rattle.entries.specs.declared.KeysAnswer.the-variants.{Passed}
 use Rattle.entries.specs.declared.Scan.{Scan}
 use Rattle.entries.proofs.test_keys.Statement.{statement}
 use Rattle.entries.proofs.test_keys.Tie as tie
@@ -59,7 +59,7 @@ returns-4 c = let e3 = c .before in let e2 = e3 .before .before in let s = e2 .b
 
 returns-5 : tie.Need-returns-5
 unfolding keysOf
-returns-5 c = let e3 = c .before in let e2 = e3 .before .before in let s = e2 .before in ap₂ Passed (count-is s) (ap (λ (x : Scan). x .«tnom_outside») (s .scan-keys .ensures)) ∙ cond-no _ _ (tested (ap (λ (x : Scan). x .outside) (s .scan-keys .ensures)) (c .if4 .left)) ∙ cond-no _ _ (three e3) ∙ cond-no _ _ (two e2) ∙ cond-no _ _ (one s)
+returns-5 c = let e3 = c .before in let e2 = e3 .before .before in let s = e2 .before in (λ i. done (record { unknown = count-is s i; outside = s .scan-keys .ensures i .«tnom_outside» })) ∙ cond-no _ _ (tested (ap (λ (x : Scan). x .outside) (s .scan-keys .ensures)) (c .if4 .left)) ∙ cond-no _ _ (three e3) ∙ cond-no _ _ (two e2) ∙ cond-no _ _ (one s)
 
 pub test-keys-spec : {M : Type 1} → statement M
 test-keys-spec =

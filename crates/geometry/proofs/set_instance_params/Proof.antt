@@ -1,13 +1,13 @@
 -- `geometry::set_instance_params` meets its contract.
 -- Assumes nothing.
-use mathlib.Core.Path.{_≡_, _∙_, sym, ap, ap₂}
+use mathlib.Core.Path.{_≡_, _∙_, sym, ap}
 use lib.ListN.{length}
+use Rattle.device.specs.Refusals.{done}
 use Rattle.device.proofs.Branches.{tested}
 use Rattle.keys.specs.declared.Table.the-variants as Table
-use Rattle.entries.specs.Entries.{entriesOf}
+use Rattle.entries.specs.Entries.{entriesOf, outcomeOfKeys}
 use Rattle.entries.proofs.Rows.{Passing, passing}
 use Rattle.geometry.specs.Geometry.{sizesOf, oxideMissing, sizedTo, sizesGiven}
-use Rattle.geometry.specs.declared.GeometryAnswer.the-variants.{Done}
 use Rattle.geometry.specs.declared.Sizes.{Sizes}
 use Rattle.geometry.proofs.Geometry.{at-keys, at-5, at-10, accepted}
 use borrow.Author.Needs.{needs}
@@ -16,7 +16,7 @@ use Rattle.geometry.proofs.set_instance_params.Tie as tie
 
 -- what rows 1 to 4 leave
 pass : (c : tie.After-tested2) → (let a = c .before .before .before .before .before .before .before .before .args in Passing Table.Geometry (a .bytes .now) (a .offsets .now) (a .lengths .now) (a .values .now) (length (a .unknown .now)) (c .tested2 .given .0 .0) (c .tested2 .given .0 .1 .0))
-pass c = passing _ _ _ _ _ _ _ _ (sym (c .before .before .test-keys .ensures) ∙ c .tested2 .given .1)
+pass c = passing _ _ _ _ _ _ _ _ (sym (c .before .before .test-keys .ensures) ∙ ap outcomeOfKeys (c .tested2 .given .1))
 
 read-sizes-requires : tie.Need-read-sizes-requires
 read-sizes-requires c κs = pass (c .before .before) .pairs
@@ -47,7 +47,7 @@ list-unknown-requires : tie.Need-list-unknown-requires
 list-unknown-requires c κs = let p = pass (c .before .before .before .before .before .before .before .before) in (p .pairs, p .room)
 
 returns-3 : tie.Need-returns-3
-returns-3 c = at-keys _ _ _ _ _ _ _ (sym (c .before .before .before .test-keys .ensures) ∙ c .before .tested .given .1)
+returns-3 c = at-keys _ _ _ _ _ _ _ (sym (c .before .before .before .test-keys .ensures) ∙ ap outcomeOfKeys (c .before .tested .given .1))
 
 same-length : tie.Need-same-length
 same-length c = search needs
@@ -60,8 +60,9 @@ returns-4 c =
     let k = r .before .before .before in
     let d = k .before .before .before .before .before .before .before .before .args .device in
     let p = pass k in
+    let device = c .sized .ensures ∙ ap (sizedTo d) (sizes-is r) in
     let g = accepted d _ _ _ _ _ (p .none) (tested (oxide-is (e1 .before)) (e1 .if1 .left)) (tested (e2 .before .before2 .ensures) (e2 .if2 .left)) in
-    (ap₂ Done (c .sized .ensures ∙ ap (sizedTo d) (sizes-is r)) (p .count) ∙ g .0, c .before .before .before .list-unknown .ensures ∙ g .1)
+    ((λ i. done (record { device = device i; unknown = p .count i })) ∙ g .0, c .before .before .before .list-unknown .ensures ∙ g .1)
 
 pub set-instance-params-spec : {M : Type 1} → statement M
 set-instance-params-spec =

@@ -1,9 +1,7 @@
 -- `keys::tnom_outside` meets its contract.
 -- Assumes nothing.
 use mathlib.Core.Path.{_∙_, sym, ap}
-use mathlib.Core.Bool.{not}
-use lib.Ieee.{Float}
-use Rattle.device.specs.Limits.{within, coldest, hottest}
+use Rattle.device.specs.Limits.{outsideTemperatures}
 use Rattle.keys.specs.Ranges.{tnomOutside}
 use Rattle.keys.specs.declared.Meaning.{Meaning}
 use borrow.Author.Needs.{needs}
@@ -32,7 +30,7 @@ returns : tie.Need-returns
 returns c = search needs
 
 returns-2 : tie.Need-returns-2
-returns-2 c = c .outside-temperatures .ensures ∙ ap (λ (x : Float). not (within x coldest hottest)) (c .before .to-kelvin .ensures) ∙ ap (λ (m : Meaning). tnomOutside m (c .before .before .before .before .args .v)) (sym (c .before .before .enum-told2 .given .1))
+returns-2 c = c .outside-temperatures .ensures ∙ ap outsideTemperatures (c .before .to-kelvin .ensures) ∙ ap (λ (m : Meaning). tnomOutside m (c .before .before .before .before .args .v)) (sym (c .before .before .enum-told2 .given .1))
 
 returns-3 : tie.Need-returns-3
 returns-3 c = search needs

@@ -1,7 +1,8 @@
 -- `setup::beyond` meets its contract.
 -- Assumes nothing.
 use mathlib.Core.Path.{sym, ap}
-use Rattle.setup.specs.Binding.{beyond}
+use Rattle.device.specs.Nodes.{nodeBeyond}
+use Rattle.setup.specs.Binding.{nodeLimit}
 use borrow.Author.Needs.{needs}
 use Rattle.setup.proofs.beyond.Statement.{statement}
 use Rattle.setup.proofs.beyond.Tie as tie
@@ -16,7 +17,7 @@ returns : tie.Need-returns
 returns c = search needs
 
 returns-2 : tie.Need-returns-2
-returns-2 c = ap beyond (sym (c .before .node .given .1))
+returns-2 c = ap (nodeBeyond nodeLimit) (sym (c .before .node .given .1))
 
 pub beyond-spec : {M : Type 1} → statement M
 beyond-spec = tie.close (tie.spec enum-told enum-known-node returns returns-2)

@@ -1,10 +1,11 @@
 -- `setup::setup_instance` meets its contract. Each answer follows from the tests on the way, by the laws of the binding call.
 -- Assumes nothing.
-use mathlib.Core.Path.{_∙_, sym, ap, ap₂}
-use Rattle.device.proofs.Branches.{or-yes, tested}
-use Rattle.setup.specs.Binding.{beyond, anyBeyond, boundTo}
-use Rattle.setup.specs.declared.SetupAnswer.the-variants.{Done}
-use Rattle.setup.proofs.Binding.{next-fits, refused-8, refused-10, accepted}
+use mathlib.Core.Path.{_∙_, ap}
+use Rattle.device.specs.Nodes.{nodeBeyond, anyNodeBeyond}
+use Rattle.device.specs.Refusals.{done}
+use Rattle.device.proofs.Branches.{tested}
+use Rattle.setup.specs.Binding.{nodeLimit, boundTo}
+use Rattle.setup.proofs.Binding.{next-fits, drain-beyond, refused-8, refused-10, accepted}
 use borrow.Author.Needs.{needs}
 use Rattle.setup.proofs.setup_instance.Statement.{statement}
 use Rattle.setup.proofs.setup_instance.Tie as tie
@@ -16,28 +17,28 @@ beyond-requires : tie.Need-beyond-requires
 beyond-requires c κs = search needs
 
 returns : tie.Need-returns
-returns c = refused-8 _ _ _ _ _ _ (sym (or-yes _ (tested (c .before .beyond .ensures ∙ ap beyond (c .before .before .inner-drain .ensures)) (c .if1 .taken))))
+returns c = refused-8 _ _ _ _ _ _ (drain-beyond _ (tested (c .before .beyond .ensures ∙ ap (nodeBeyond nodeLimit) (c .before .before .inner-drain .ensures)) (c .if1 .taken)))
 
 terminals-requires : tie.Need-terminals-requires
-terminals-requires c κs = next-fits _ _ _ (c .before .before .before .fits .first .fits) (tested (c .before .beyond .ensures ∙ ap beyond (c .before .before .inner-drain .ensures)) (c .if1 .left))
+terminals-requires c κs = next-fits _ _ _ (c .before .before .before .fits .first .fits) (tested (c .before .beyond .ensures ∙ ap (nodeBeyond nodeLimit) (c .before .before .inner-drain .ensures)) (c .if1 .left))
 
 any-beyond-requires : tie.Need-any-beyond-requires
 any-beyond-requires c κs = search needs
 
 returns-2 : tie.Need-returns-2
-returns-2 c = refused-8 _ _ _ _ _ _ (tested (c .before .any-beyond .ensures ∙ ap anyBeyond (c .before .before .terminals .ensures)) (c .if2 .taken))
+returns-2 c = refused-8 _ _ _ _ _ _ (tested (c .before .any-beyond .ensures ∙ ap (anyNodeBeyond nodeLimit) (c .before .before .terminals .ensures)) (c .if2 .taken))
 
 outside-binding-requires : tie.Need-outside-binding-requires
 outside-binding-requires c κs = search needs
 
 returns-3 : tie.Need-returns-3
-returns-3 c = refused-10 _ _ _ _ _ _ (tested (c .before .before .before .any-beyond .ensures ∙ ap anyBeyond (c .before .before .before .before .terminals .ensures)) (c .before .before .if2 .left)) (tested (c .before .outside-binding .ensures) (c .if3 .taken))
+returns-3 c = refused-10 _ _ _ _ _ _ (tested (c .before .before .before .any-beyond .ensures ∙ ap (anyNodeBeyond nodeLimit) (c .before .before .before .before .terminals .ensures)) (c .before .before .if2 .left)) (tested (c .before .outside-binding .ensures) (c .if3 .taken))
 
 bound-requires : tie.Need-bound-requires
 bound-requires c κs = search needs
 
 returns-4 : tie.Need-returns-4
-returns-4 c = ap Done (c .bound .ensures ∙ ap (boundTo (c .before .before .before .before .before .before .before .before .before .args .device)) (c .before .before .before .before .before .terminals .ensures)) ∙ accepted _ _ _ _ _ _ (tested (c .before .before .before .before .any-beyond .ensures ∙ ap anyBeyond (c .before .before .before .before .before .terminals .ensures)) (c .before .before .before .if2 .left)) (tested (c .before .before .outside-binding .ensures) (c .before .if3 .left))
+returns-4 c = ap done (c .bound .ensures ∙ ap (boundTo (c .before .before .before .before .before .before .before .before .before .args .device)) (c .before .before .before .before .before .terminals .ensures)) ∙ accepted _ _ _ _ _ _ (tested (c .before .before .before .before .any-beyond .ensures ∙ ap (anyNodeBeyond nodeLimit) (c .before .before .before .before .before .terminals .ensures)) (c .before .before .before .if2 .left)) (tested (c .before .before .outside-binding .ensures) (c .before .if3 .left))
 
 pub setup-instance-spec : {M : Type 1} → statement M
 setup-instance-spec =

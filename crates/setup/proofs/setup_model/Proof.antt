@@ -3,9 +3,9 @@
 use Rattle.device.specs.Limits.{outsideTemperatures}
 use mathlib.Core.Path.{_≡_, _∙_, ap}
 use mathlib.Core.Bool.{false}
+use Rattle.device.specs.Refusals.{done}
 use Rattle.device.proofs.Branches.{tested}
 use Rattle.setup.specs.Scaling.{scaledAt, potentialsLow, scaledTo}
-use Rattle.setup.specs.declared.SetupAnswer.the-variants.{Done}
 use Rattle.setup.proofs.Scaling.{refused-6, refused-7, refused-10, accepted}
 use borrow.Author.Needs.{needs}
 use Rattle.setup.proofs.setup_model.Statement.{statement}
@@ -29,7 +29,7 @@ cool c = tested (c .before .before .before .outside-temperatures .ensures) (c .b
 
 -- row 7's test
 low-is : (c : tie.After-potentials-low) →
-    (let a = c .before .before .before .before .before .args in c .potentials-low .result ≡ potentialsLow (scaledAt (a .device .card) (a .temperature .0)))
+    (let a = c .before .before .before .before .before .args in c .potentials-low .result ≡ potentialsLow (scaledAt (a .device .card) (a .temperature)))
 low-is c = c .potentials-low .ensures ∙ ap potentialsLow (c .before .scaled-at .ensures)
 
 returns-2 : tie.Need-returns-2
@@ -45,7 +45,7 @@ scaled-to-requires : tie.Need-scaled-to-requires
 scaled-to-requires c κs = search needs
 
 returns-4 : tie.Need-returns-4
-returns-4 c = let d = c .before .before .before .before in ap Done (c .scaled-to .ensures ∙ ap (scaledTo (d .before .before .before .before .before .args .device)) (d .before .scaled-at .ensures)) ∙ accepted _ _ (cool (d .before)) (tested (low-is d) (c .before .before .before .if2 .left)) (tested (c .before .before .before2 .ensures) (c .before .if3 .left))
+returns-4 c = let d = c .before .before .before .before in ap done (c .scaled-to .ensures ∙ ap (scaledTo (d .before .before .before .before .before .args .device)) (d .before .scaled-at .ensures)) ∙ accepted _ _ (cool (d .before)) (tested (low-is d) (c .before .before .before .if2 .left)) (tested (c .before .before .before2 .ensures) (c .before .if3 .left))
 
 pub setup-model-spec : {M : Type 1} → statement M
 setup-model-spec =
