@@ -4,11 +4,12 @@ use lib.Ieee.{Float}
 use Rattle.exact.specs.Float64.{_⊕_, _⊖_, _⊗_, _⊘_, _≤f_, +0, +1}
 use Rattle.elementary.specs.Functions.{expOf}
 use Rattle.float.specs.Constants.{kBoltzmann, qElectron}
+use Rattle.temperature.specs.declared.Kelvin.{Kelvin}
 use Rattle.junction.specs.declared.Junction.{Junction}
 
 -- vt = k T / q
-unfoldable pub thermalVoltageOf : Float → Float
-thermalVoltageOf t = kBoltzmann ⊗ t ⊘ qElectron
+unfoldable pub thermalVoltageOf : Kelvin → Float
+thermalVoltageOf t = kBoltzmann ⊗ t .0 ⊘ qElectron
 
 -- i = isat (e - 1) + gmin v and g = isat e / vt + gmin, with e = exp(v / vt)
 unfoldable pub shockleyOf : Float → Float → Float → Float → Float → Junction

@@ -1,4 +1,5 @@
 // The bulk junctions: `SimContext::vt` of device.rs and `bulk_junction` of mosfet1.rs.
+use temperature::Kelvin;
 ghost use mathlib.Core.Path.{_≡_};
 ghost use Rattle.junction.specs.Junction.{thermalVoltageOf, bulkJunctionOf, junctionOffsetOf};
 
@@ -13,10 +14,10 @@ pub struct Junction {
     pub g: f64,
 }
 
-pub fn vt(temperature: f64) -> f64
+pub fn vt(temperature: Kelvin) -> f64
     ensures { λ r. ⌜ r ≡ thermalVoltageOf temperature ⌝ }
 {
-    K_BOLTZMANN * temperature / Q_ELECTRON
+    K_BOLTZMANN * temperature.0 / Q_ELECTRON
 }
 
 pub fn bulk_junction(isat: f64, v: f64, vt: f64, gmin: f64) -> Junction

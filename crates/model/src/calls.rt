@@ -3,7 +3,7 @@ use device::Mosfet1;
 use mosfet1::steps::Conditions;
 use mosfet1::steps::Evaluated;
 ghost use mathlib.Core.Path.{_≡_};
-ghost use Rattle.model.specs.Calls.{evalOf, commitOf};
+ghost use Rattle.model.specs.Calls.{outcomeOfEvaluation, evalOf, outcomeOfCommit, commitOf};
 
 // The device after the evaluation with what it answers, or the row that refuses it.
 pub enum Evaluation {
@@ -18,13 +18,12 @@ pub enum Commit {
 }
 
 pub fn eval(d: Mosfet1, x: &[f64], transient: bool, k: Conditions) -> Evaluation
-    ensures { λ r. ⌜ r ≡ evalOf d (now (x .entry)) transient k ⌝ }
+    ensures { λ r. ⌜ outcomeOfEvaluation r ≡ evalOf d (now (x .entry)) transient k ⌝ }
 {
     let stage = d.stage;
-    let kelvin = k.temperature;
     let method = k.method;
     let n = x.len();
-    let first = step_rows::first_row(stage, d.terminals, n, kelvin.0, k.gmin);
+    let first = step_rows::first_row(stage, d.terminals, n, k.temperature, k.gmin);
     if first != 0 {
         return Evaluation::Refused(first);
     }
@@ -38,7 +37,7 @@ pub fn eval(d: Mosfet1, x: &[f64], transient: bool, k: Conditions) -> Evaluation
 }
 
 pub fn commit_timestep(d: Mosfet1, x: &[f64]) -> Commit
-    ensures { λ r. ⌜ r ≡ commitOf d (now (x .entry)) ⌝ }
+    ensures { λ r. ⌜ outcomeOfCommit r ≡ commitOf d (now (x .entry)) ⌝ }
 {
     let stage = d.stage;
     let row = step_rows::commit_row(stage, d.terminals, x);

@@ -31,8 +31,8 @@ evaluatedAnswerOf d v gmin limiter =
 unfoldable pub evaluatedPointOf : Mosfet1 → Voltages → Kelvin → Float → Answer → OperatingPoint
 evaluatedPointOf d v t gmin a =
     operatingPointOf (d .card .polarity) a (v .vb ⊖ v .vs)
-    (junctionStampOf (d .geometry .«isat_bs» ⊗ d .scaled .«isat_t_factor») (d .card .polarity) (v .vb ⊖ v .vs) (thermalVoltageOf (t .0)) gmin)
-    (junctionStampOf (d .geometry .«isat_bd» ⊗ d .scaled .«isat_t_factor») (d .card .polarity) (v .vb ⊖ v .vd) (thermalVoltageOf (t .0)) gmin)
+    (junctionStampOf (d .geometry .«isat_bs» ⊗ d .scaled .«isat_t_factor») (d .card .polarity) (v .vb ⊖ v .vs) (thermalVoltageOf t) gmin)
+    (junctionStampOf (d .geometry .«isat_bd» ⊗ d .scaled .«isat_t_factor») (d .card .polarity) (v .vb ⊖ v .vd) (thermalVoltageOf t) gmin)
 
 -- without the transient flag the last transient evaluation's values stay
 unfoldable pub evaluatedChargesOf : Mosfet1 → Voltages → Bool → Answer → device.Charges

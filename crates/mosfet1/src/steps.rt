@@ -56,7 +56,7 @@ fn evaluated_point(
     let pol = d.card.polarity;
     let vb = v.vb;
     let vbs = vb - v.vs;
-    let vt = junction::vt(temperature.0);
+    let vt = junction::vt(temperature);
     let bs = bias::junction_stamp(geometry.isat_bs * factor, pol, vbs, vt, gmin);
     let bd = bias::junction_stamp(geometry.isat_bd * factor, pol, vb - v.vd, vt, gmin);
     bias::operating_point(pol, a, vbs, bs, bd)

@@ -7,7 +7,7 @@ use native.Mathlib.Nat.{not-suc-le-zero, le-of-suc-le-suc}
 use lib.ListN.{length, getD}
 use Rattle.device.specs.declared.Stage.{Stage}
 use Rattle.device.specs.declared.Stage.the-variants as Stages
-use Rattle.rows.specs.Rows.{unboundOf, unevaluatedOf}
+use Rattle.device.specs.Stages.{unbound, unevaluated}
 
 pub within : {A : Type 0} (l : List A) (i : ℕ) (d e : A) → i < length l → getD l i d ≡ getD l i e
 within [] i d e h = absurd (not-suc-le-zero h)
@@ -19,8 +19,8 @@ past [] i d h = refl
 past (x ∷ xs) zero d h = absurd (not-suc-le-zero h)
 past (x ∷ xs) (suc i) d h = past xs i d (le-of-suc-le-suc h)
 
-pub unbound-unevaluated : (s : Stage) → unboundOf s ≡ true → unevaluatedOf s ≡ true
-unfolding unboundOf unevaluatedOf
+pub unbound-unevaluated : (s : Stage) → unbound s ≡ true → unevaluated s ≡ true
+unfolding unbound unevaluated
 unbound-unevaluated Stages.Card h = refl
 unbound-unevaluated Stages.Geometry h = refl
 unbound-unevaluated Stages.Scaled h = refl

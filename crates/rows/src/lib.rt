@@ -4,8 +4,10 @@ use bias::Voltages;
 use device::NodeId;
 use device::Stage;
 use device::Terminals;
+use temperature::Kelvin;
 ghost use mathlib.Core.Path.{_≡_};
-ghost use Rattle.rows.specs.Rows.{nodeVoltageOf, voltagesOf, outsideOf, unevaluatedOf, noiseRowOf};
+ghost use Rattle.device.specs.Stages.{unevaluated};
+ghost use Rattle.rows.specs.Rows.{nodeVoltageOf, voltagesOf, noiseRowOf};
 
 // What a node is at: 0 at ground.
 fn voltage(x: &[f64], node: NodeId) -> f64
@@ -36,23 +38,16 @@ pub fn voltages(x: &[f64], t: Terminals) -> Voltages
     Voltages { vd, vg, vs, vb }
 }
 
-// A NaN is outside every range.
-fn outside(lo: f64, hi: f64, v: f64) -> bool
-    ensures { λ r. ⌜ r ≡ outsideOf lo hi v ⌝ }
-{
-    !device::within(v, lo, hi)
-}
-
 pub fn unevaluated(stage: Stage) -> bool
-    ensures { λ r. ⌜ r ≡ unevaluatedOf stage ⌝ }
+    ensures { λ r. ⌜ r ≡ unevaluated stage ⌝ }
 {
     device::before(stage, Stage::Evaluated)
 }
 
-pub fn noise_row(stage: Stage, temperature: f64) -> u8
+pub fn noise_row(stage: Stage, temperature: Kelvin) -> u8
     ensures { λ r. ⌜ r ≡ noiseRowOf stage temperature ⌝ }
 {
-    if outside(200.0, 500.0, temperature) {
+    if device::outside_temperatures(temperature) {
         return 6;
     }
     if unevaluated(stage) {

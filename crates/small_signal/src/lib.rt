@@ -9,7 +9,7 @@ use model::small_signal::Reactance;
 use model::small_signal::Reactances;
 use temperature::Kelvin;
 ghost use mathlib.Core.Path.{_≡_};
-ghost use Rattle.model.specs.SmallSignal.{densityOf, noiseOf, reactanceOf, fiveOf, reactancesOf};
+ghost use Rattle.model.specs.SmallSignal.{densityOf, outcomeOfNoise, noiseOf, reactanceOf, fiveOf, outcomeOfReactances, reactancesOf};
 
 // Thermal and flicker noise are not correlated, so the densities add up.
 fn density(d: Mosfet1, temperature: Kelvin, freq: f64) -> f64
@@ -18,17 +18,17 @@ fn density(d: Mosfet1, temperature: Kelvin, freq: f64) -> f64
     let card = d.card;
     let geometry = d.geometry;
     let point = d.point;
-    let thermal = noise::thermal_noise(point.gm, temperature.0);
+    let thermal = noise::thermal_noise(point.gm, temperature);
     let norm = geometry.w * geometry.l * card.cox;
     let flicker = noise::flicker_noise(card.kf, card.af, point.ids_eval, freq, norm);
     thermal + flicker
 }
 
 pub fn noise_sources(d: Mosfet1, temperature: Kelvin, freq: f64) -> Noise
-    ensures { λ r. ⌜ r ≡ noiseOf d temperature freq ⌝ }
+    ensures { λ r. ⌜ outcomeOfNoise r ≡ noiseOf d temperature freq ⌝ }
 {
     let stage = d.stage;
-    let row = rows::noise_row(stage, temperature.0);
+    let row = rows::noise_row(stage, temperature);
     if row != 0 {
         return Noise::Refused(row);
     }
@@ -67,7 +67,7 @@ fn reactances_at(t: Terminals, q: Charges) -> FiveReactances
 }
 
 pub fn small_signal_reactances(d: Mosfet1) -> Reactances
-    ensures { λ r. ⌜ r ≡ reactancesOf d ⌝ }
+    ensures { λ r. ⌜ outcomeOfReactances r ≡ reactancesOf d ⌝ }
 {
     let stage = d.stage;
     if rows::unevaluated(stage) {

@@ -7,10 +7,13 @@ use mathlib.Core.List.{List}
 use lib.Dec.{eqb}
 use lib.ListN.{length}
 use lib.Ieee.{Float}
+use Rattle.temperature.specs.declared.Kelvin.{Kelvin}
+use Rattle.device.specs.Nodes.{anyNodeBeyond}
+use Rattle.device.specs.Stages.{unbound}
 use Rattle.device.specs.declared.Stage.{Stage}
 use Rattle.device.specs.declared.Discretisation.{Discretisation}
 use Rattle.device.specs.declared.Terminals.{Terminals}
-use Rattle.rows.specs.Rows.{row6Of, row8Of, row9Of, unboundOf, row11Of, voltagesOf, evalRowOf}
+use Rattle.rows.specs.Rows.{row6Of, nodesOutside, voltagesOutside, row9Of, row11Of, voltagesOf, evalRowOf}
 use Rattle.step_rows.specs.StepRows.{firstRowOf, lastRowOf}
 
 abbrev first : Bool → Bool → Bool → ℕ
@@ -22,6 +25,6 @@ parts false true eight nine eleven = refl
 parts false false true nine eleven = refl
 parts false false false nine eleven = refl
 
-pub in-two : (stage : Stage) (t : Terminals) (x : List Float) (temperature gmin : Float) (disc : Discretisation) → evalRowOf stage t x temperature gmin disc ≡ cond (eqb (firstRowOf stage t (length x) temperature gmin) 0) (lastRowOf (voltagesOf x t) disc) (firstRowOf stage t (length x) temperature gmin)
-unfolding evalRowOf firstRowOf lastRowOf
-in-two stage t x temperature gmin disc = parts (row6Of temperature gmin) (unboundOf stage) (row8Of (length x) t) (row9Of (voltagesOf x t)) (row11Of disc)
+pub in-two : (stage : Stage) (t : Terminals) (x : List Float) (temperature : Kelvin) (gmin : Float) (disc : Discretisation) → evalRowOf stage t x temperature gmin disc ≡ cond (eqb (firstRowOf stage t (length x) temperature gmin) 0) (lastRowOf (voltagesOf x t) disc) (firstRowOf stage t (length x) temperature gmin)
+unfolding evalRowOf firstRowOf lastRowOf nodesOutside voltagesOutside
+in-two stage t x temperature gmin disc = parts (row6Of temperature gmin) (unbound stage) (anyNodeBeyond (length x) t) (row9Of (voltagesOf x t)) (row11Of disc)

@@ -5,9 +5,12 @@ use device::Discretisation;
 use device::NodeId;
 use device::Stage;
 use device::Terminals;
+use temperature::Kelvin;
 ghost use mathlib.Core.Path.{_≡_};
 ghost use mathlib.Core.Bool.{_||_};
-ghost use Rattle.rows.specs.Rows.{outsideOf, row6Of, beyondOf, row8Of, row9Of, unboundOf, badStepOf, row11Of, commitRowOf};
+ghost use Rattle.device.specs.Nodes.{nodeBeyond, anyNodeBeyond};
+ghost use Rattle.device.specs.Stages.{unbound};
+ghost use Rattle.rows.specs.Rows.{outsideOf, row6Of, row9Of, badStepOf, row11Of, commitRowOf};
 ghost use Rattle.step_rows.specs.StepRows.{firstRowOf, lastRowOf};
 
 fn either(a: bool, b: bool) -> bool
@@ -26,16 +29,16 @@ fn outside(lo: f64, hi: f64, v: f64) -> bool
     !device::within(v, lo, hi)
 }
 
-fn row6(temperature: f64, gmin: f64) -> bool
+fn row6(temperature: Kelvin, gmin: f64) -> bool
     ensures { λ r. ⌜ r ≡ row6Of temperature gmin ⌝ }
 {
-    let a = outside(200.0, 500.0, temperature);
+    let a = device::outside_temperatures(temperature);
     let b = outside(0.0, 1.0, gmin);
     either(a, b)
 }
 
 fn beyond(n: usize, node: NodeId) -> bool
-    ensures { λ r. ⌜ r ≡ beyondOf n node ⌝ }
+    ensures { λ r. ⌜ r ≡ nodeBeyond n node ⌝ }
 {
     match node {
         NodeId::Ground => false,
@@ -44,7 +47,7 @@ fn beyond(n: usize, node: NodeId) -> bool
 }
 
 fn row8(n: usize, t: Terminals) -> bool
-    ensures { λ r. ⌜ r ≡ row8Of n t ⌝ }
+    ensures { λ r. ⌜ r ≡ anyNodeBeyond n t ⌝ }
 {
     let drain_ext = t.drain_ext;
     let source_ext = t.source_ext;
@@ -70,7 +73,7 @@ fn row9(v: Voltages) -> bool
 }
 
 fn unbound(stage: Stage) -> bool
-    ensures { λ r. ⌜ r ≡ unboundOf stage ⌝ }
+    ensures { λ r. ⌜ r ≡ unbound stage ⌝ }
 {
     device::before(stage, Stage::Bound)
 }
@@ -97,7 +100,7 @@ fn row11(disc: Discretisation) -> bool
 }
 
 // The rows of an evaluation that need no voltage. Before binding rows 8 and 9 do not apply, and row 10 does.
-pub fn first_row(stage: Stage, t: Terminals, n: usize, temperature: f64, gmin: f64) -> u8
+pub fn first_row(stage: Stage, t: Terminals, n: usize, temperature: Kelvin, gmin: f64) -> u8
     ensures { λ r. ⌜ r ≡ firstRowOf stage t n temperature gmin ⌝ }
 {
     if row6(temperature, gmin) {

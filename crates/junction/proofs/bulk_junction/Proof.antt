@@ -12,7 +12,7 @@ exp-requires c κs = search needs
 
 returns-2 : tie.Need-returns-2
 unfolding bulkJunctionOf shockleyOf
-returns-2 c = rw (c .before .if1 .left) (cc)
+returns-2 c = rw (c .before .if1 .left, c .exp .ensures)
 
 pub bulk-junction-spec : {M : Type 1} → statement M
 bulk-junction-spec = tie.close (tie.spec returns exp-requires returns-2)

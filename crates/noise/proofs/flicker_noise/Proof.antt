@@ -11,7 +11,7 @@ pow-requires c κs = search needs
 
 returns : tie.Need-returns
 unfolding flickerNoiseOf
-returns c = rw (c .before .before .before .if1 .taken, c .before .before .if2 .taken) (cc)
+returns c = rw (c .before .before .before .if1 .taken, c .before .before .if2 .taken, c .pow .ensures, c .before .abs .ensures)
 
 returns-2 : tie.Need-returns-2
 unfolding flickerNoiseOf

@@ -1,4 +1,4 @@
-use Rattle.rows.specs.Rows.{unevaluatedOf}
+use Rattle.device.specs.Stages.{unevaluated}
 use borrow.Author.Needs.{needs}
 use Rattle.rows.proofs.unevaluated.Statement.{statement}
 use Rattle.rows.proofs.unevaluated.Tie as tie
@@ -7,7 +7,7 @@ before-requires : tie.Need-before-requires
 before-requires c κs = search needs
 
 returns : tie.Need-returns
-unfolding unevaluatedOf
+unfolding unevaluated
 returns c = c .before2 .ensures
 
 pub unevaluated-spec : {M : Type 1} → statement M

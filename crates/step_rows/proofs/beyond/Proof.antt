@@ -1,4 +1,3 @@
-use Rattle.rows.specs.Rows.{beyondOf}
 use borrow.Author.Needs.{needs}
 use Rattle.step_rows.proofs.beyond.Statement.{statement}
 use Rattle.step_rows.proofs.beyond.Tie as tie
@@ -10,11 +9,9 @@ enum-known-node : tie.Need-enum-known-node
 enum-known-node c = search needs
 
 returns : tie.Need-returns
-unfolding beyondOf
 returns c = rw (c .enum-told .given .1)
 
 returns-2 : tie.Need-returns-2
-unfolding beyondOf
 returns-2 c = rw (c .before .node .given .1)
 
 pub beyond-spec : {M : Type 1} → statement M

@@ -1,4 +1,4 @@
-use Rattle.rows.specs.Rows.{row8Of}
+use Rattle.device.specs.Nodes.{anyNodeBeyond}
 use Rattle.step_rows.proofs.row8.Statement.{statement}
 use Rattle.step_rows.proofs.row8.Tie as tie
 
@@ -36,7 +36,7 @@ either-requires-5 : tie.Need-either-requires-5
 either-requires-5 c κs = tt
 
 returns : tie.Need-returns
-unfolding row8Of
+unfolding anyNodeBeyond
 returns c = rw (c .either5 .ensures, c .before .beyond6 .ensures, c .before .before .either4 .ensures, c .before .before .before .beyond5 .ensures, c .before .before .before .before .either3 .ensures, c .before .before .before .before .before .beyond4 .ensures, c .before .before .before .before .before .before .either2 .ensures, c .before .before .before .before .before .before .before .beyond3 .ensures, c .before .before .before .before .before .before .before .before .either .ensures, c .before .before .before .before .before .before .before .before .before .beyond2 .ensures, c .before .before .before .before .before .before .before .before .before .before .beyond .ensures)
 
 pub row8-spec : {M : Type 1} → statement M

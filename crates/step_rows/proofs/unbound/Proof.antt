@@ -1,4 +1,4 @@
-use Rattle.rows.specs.Rows.{unboundOf}
+use Rattle.device.specs.Stages.{unbound}
 use borrow.Author.Needs.{needs}
 use Rattle.step_rows.proofs.unbound.Statement.{statement}
 use Rattle.step_rows.proofs.unbound.Tie as tie
@@ -7,7 +7,7 @@ before-requires : tie.Need-before-requires
 before-requires c κs = search needs
 
 returns : tie.Need-returns
-unfolding unboundOf
+unfolding unbound
 returns c = c .before2 .ensures
 
 pub unbound-spec : {M : Type 1} → statement M

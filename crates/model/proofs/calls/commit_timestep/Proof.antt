@@ -1,5 +1,5 @@
 use borrow.Author.Tests.{eq-eqb, ne-eqb}
-use Rattle.model.specs.Calls.{commitOf, commitAnswerOf}
+use Rattle.model.proofs.ByRow.{commit-by-row}
 use Rattle.model.proofs.calls.commit_timestep.Statement.{statement}
 use Rattle.model.proofs.calls.commit_timestep.Tie as tie
 
@@ -7,8 +7,7 @@ commit-row-requires : tie.Need-commit-row-requires
 commit-row-requires c κs = tt
 
 returns : tie.Need-returns
-unfolding commitOf commitAnswerOf
-returns c = rw (← c .before .commit-row .ensures, ne-eqb _ 0 (c .if1 .taken))
+returns c = rw (commit-by-row _ _, ← c .before .commit-row .ensures, ne-eqb _ 0 (c .if1 .taken))
 
 voltages-requires : tie.Need-voltages-requires
 voltages-requires c κs = tt
@@ -17,8 +16,7 @@ committed-requires : tie.Need-committed-requires
 committed-requires c κs = tt
 
 returns-2 : tie.Need-returns-2
-unfolding commitOf commitAnswerOf
-returns-2 c = rw (← c .before .before .before .commit-row .ensures, eq-eqb _ 0 (c .before .before .if1 .left), c .committed .ensures, c .before .voltages .ensures)
+returns-2 c = rw (commit-by-row _ _, ← c .before .before .before .commit-row .ensures, eq-eqb _ 0 (c .before .before .if1 .left), c .committed .ensures, c .before .voltages .ensures)
 
 pub commit-timestep-spec : {M : Type 1} → statement M
 commit-timestep-spec =
