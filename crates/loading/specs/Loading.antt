@@ -1,19 +1,18 @@
 -- A load: which row of the refusals applies, and what both slices hold afterwards.
 use Prim.Native.Nat.{ℕ}
 use mathlib.Core.Path.{_≡_}
-use mathlib.Core.Bool.{Bool, true, false, cond, not, _&&_}
-use mathlib.Core.List.{List}
+use mathlib.Core.Bool.{Bool, false, not, _&&_, _||_}
+use mathlib.Core.List.{List, [], _∷_}
 use lib.ListN.{length}
-use lib.Dec.{ltb}
 use lib.Ieee.{Float, binary64, ofBits}
 use Rattle.exact.specs.Float64.{+0, +1}
 use Rattle.pattern.specs.Pattern.{wellFormed}
 use Rattle.device.specs.Limits.{within}
-use Rattle.device.specs.Stages.{before}
-use Rattle.device.specs.declared.NodeId.{NodeId}
-use Rattle.device.specs.declared.NodeId.the-variants.{Ground, At}
+use Rattle.device.specs.Nodes.{anyNodeBeyond}
+use Rattle.device.specs.Refusals.{Row, unless, rowNumber, Outcome, done, refused, _when_}
+use Rattle.device.specs.Stages.{unbound, unevaluated}
+use Rattle.device.specs.declared.NodeId.the-variants.{Ground}
 use Rattle.device.specs.declared.Stage.{Stage}
-use Rattle.device.specs.declared.Stage.the-variants as Stage
 use Rattle.device.specs.declared.Discretisation.{Discretisation}
 use Rattle.device.specs.declared.Terminals.{Terminals}
 use Rattle.device.specs.declared.Mosfet1.{Mosfet1}
@@ -28,28 +27,8 @@ use Rattle.loading.specs.declared.LoadAnswer.{LoadAnswer}
 use Rattle.loading.specs.declared.LoadAnswer.the-variants.{Done, Refused}
 
 -- row 8: a node is not below the lent length or the row count; before binding there are no nodes
-unfoldable pub isBound : Stage → Bool
-isBound stage = not (before stage Stage.Bound)
-
-unfoldable pub nodeBelow : NodeId → ℕ → Bool
-nodeBelow Ground n = true
-nodeBelow (At i) n = ltb i n
-
-unfoldable pub nodesBelow : Terminals → ℕ → Bool
-nodesBelow t n =
-    nodeBelow (t .«drain_ext») n
-    && nodeBelow (t .«source_ext») n
-    && nodeBelow (t .drain) n
-    && nodeBelow (t .gate) n
-    && nodeBelow (t .source) n
-    && nodeBelow (t .bulk) n
-
 unfoldable pub nodesOutside : Stage → Terminals → ℕ → ℕ → Bool
-nodesOutside stage t len rows = isBound stage && not (nodesBelow t len && nodesBelow t rows)
-
--- row 10: no evaluation was accepted
-unfoldable pub isEvaluated : Stage → Bool
-isEvaluated stage = not (before stage Stage.Evaluated)
+nodesOutside stage t len rows = not (unbound stage) && (anyNodeBeyond len t || anyNodeBeyond rows t)
 
 -- row 11: a transient load's alpha is outside 1 to 1e16, where the last evaluation had no step; a NaN is outside
 abbrev pub alphaLimit : Float
@@ -80,26 +59,35 @@ jacobianContributions d k = matrixContributions (d .terminals) (jacValuesOf d) (
 unfoldable pub rhsContributions : Mosfet1 → LoadKind → List Source
 rhsContributions d k = sourceContributions (d .terminals) (residualOf d) (branchesOf d k)
 
--- the lowest row that applies, by its number; row 12 is the pattern's own test, row 13 a needed cell that is not in it
-unfoldable pub loadAnswer : Mosfet1 → LoadKind → Pattern → List Float → List Float → LoadAnswer
-loadAnswer d k P rhs values =
-    cond (nodesOutside (d .stage) (d .terminals) (length rhs) (length (P .offsets))) (Refused 8)
-    (cond (not (isEvaluated (d .stage))) (Refused 10)
-    (cond (alphaOutside (d .disc) k) (Refused 11)
-    (cond (not (wellFormed (P .columns) (P .offsets) (P .lengths) (length values))) (Refused 12)
-    (cond (not (allThere P (jacobianContributions d k))) (Refused 13) Done))))
+-- the refusals of a load; row 12 is the pattern's own test, row 13 a needed cell that is not in it
+abbrev pub loadRows : Mosfet1 → LoadKind → Pattern → List Float → List Float → List Row
+loadRows d k P rhs values =
+    (8 when nodesOutside (d .stage) (d .terminals) (length rhs) (length (P .offsets)))
+    ∷ (10 when unevaluated (d .stage))
+    ∷ (11 when alphaOutside (d .disc) k)
+    ∷ (12 when not (wellFormed (P .columns) (P .offsets) (P .lengths) (length values)))
+    ∷ (13 when not (allThere P (jacobianContributions d k)))
+    ∷ []
+
+-- LoadAnswer by its cases; what an accepted load gives is in the two slices
+abbrev pub outcomeOfLoad : LoadAnswer → Outcome Unit
+outcomeOfLoad Done = done tt
+outcomeOfLoad (Refused n) = refused n
+
+unfoldable pub loadOf : Mosfet1 → LoadKind → Pattern → List Float → List Float → Outcome Unit
+loadOf d k P rhs values = unless (loadRows d k P rhs values) refused (done tt)
 
 -- a refused load leaves a slice as it was
-unfoldable pub ifDone : LoadAnswer → List Float → List Float → List Float
-ifDone Done after before = after
-ifDone (Refused n) after before = before
+unfoldable pub ifDone : Outcome Unit → List Float → List Float → List Float
+ifDone (done u) after before = after
+ifDone (refused n) after before = before
 
--- the answer and both slices, whole
-pub record Loaded (d : Mosfet1) (k : LoadKind) (P : Pattern) (rhs values : List Float) (r : LoadAnswer) (rhs' values' : List Float) : Type 0 where
-  pub answer : r ≡ loadAnswer d k P rhs values
+-- the outcome and both slices, whole
+pub record Loaded (d : Mosfet1) (k : LoadKind) (P : Pattern) (rhs values : List Float) (r : Outcome Unit) (rhs' values' : List Float) : Type 0 where
+  pub answer : r ≡ loadOf d k P rhs values
   pub side : rhs' ≡ ifDone r (addSources (rhsContributions d k) rhs) rhs
   pub matrix : values' ≡ ifDone r (addCells P (jacobianContributions d k) values) values
 
--- the first four rows as a number, 0 where none applies
+-- the first four rows, before the cells are looked up: the number of the one that refuses, 0 where none does
 unfoldable pub earlyRow : Bool → Bool → Bool → Bool → ℕ
-earlyRow row8 row10 row11 row12 = cond row8 8 (cond row10 10 (cond row11 11 (cond row12 12 0)))
+earlyRow row8 row10 row11 row12 = rowNumber ((8 when row8) ∷ (10 when row10) ∷ (11 when row11) ∷ (12 when row12) ∷ [])

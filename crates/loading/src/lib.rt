@@ -12,7 +12,9 @@ ghost use mathlib.Core.Bool.{not};
 ghost use lib.ListN.{length};
 ghost use Rattle.pattern.specs.Pattern.{wellFormed};
 ghost use Rattle.assembly.specs.Assembly.{Pattern};
-ghost use Rattle.loading.specs.Loading.{isBound, nodeBelow, nodesBelow, nodesOutside, isEvaluated, alphaInside, alphaOutside, noBranches, branchesOf, earlyRow, Loaded};
+ghost use Rattle.device.specs.Nodes.{nodeBeyond, anyNodeBeyond};
+ghost use Rattle.device.specs.Stages.{unbound, unevaluated};
+ghost use Rattle.loading.specs.Loading.{nodesOutside, alphaInside, alphaOutside, noBranches, branchesOf, earlyRow, outcomeOfLoad, Loaded};
 
 // Direct current, or transient with the factor alpha of a load without a step.
 pub enum LoadKind {
@@ -26,29 +28,29 @@ pub enum LoadAnswer {
     Refused(u8),
 }
 
-fn is_bound(stage: Stage) -> bool
-    ensures { λ r. ⌜ r ≡ isBound stage ⌝ }
+fn unbound(stage: Stage) -> bool
+    ensures { λ r. ⌜ r ≡ unbound stage ⌝ }
 {
-    !device::before(stage, Stage::Bound)
+    device::before(stage, Stage::Bound)
 }
 
-fn is_evaluated(stage: Stage) -> bool
-    ensures { λ r. ⌜ r ≡ isEvaluated stage ⌝ }
+fn unevaluated(stage: Stage) -> bool
+    ensures { λ r. ⌜ r ≡ unevaluated stage ⌝ }
 {
-    !device::before(stage, Stage::Evaluated)
+    device::before(stage, Stage::Evaluated)
 }
 
-fn node_below(node: NodeId, len: usize) -> bool
-    ensures { λ r. ⌜ r ≡ nodeBelow node len ⌝ }
+fn node_beyond(n: usize, node: NodeId) -> bool
+    ensures { λ r. ⌜ r ≡ nodeBeyond n node ⌝ }
 {
     match node {
-        NodeId::Ground => true,
-        NodeId::At(i) => i < len,
+        NodeId::Ground => false,
+        NodeId::At(i) => n <= i,
     }
 }
 
-fn nodes_below(t: Terminals, len: usize) -> bool
-    ensures { λ r. ⌜ r ≡ nodesBelow t len ⌝ }
+fn any_node_beyond(n: usize, t: Terminals) -> bool
+    ensures { λ r. ⌜ r ≡ anyNodeBeyond n t ⌝ }
 {
     let drain_ext = t.drain_ext;
     let source_ext = t.source_ext;
@@ -56,35 +58,35 @@ fn nodes_below(t: Terminals, len: usize) -> bool
     let gate = t.gate;
     let source = t.source;
     let bulk = t.bulk;
-    if !node_below(drain_ext, len) {
-        return false;
+    if node_beyond(n, drain_ext) {
+        return true;
     }
-    if !node_below(source_ext, len) {
-        return false;
+    if node_beyond(n, source_ext) {
+        return true;
     }
-    if !node_below(drain, len) {
-        return false;
+    if node_beyond(n, drain) {
+        return true;
     }
-    if !node_below(gate, len) {
-        return false;
+    if node_beyond(n, gate) {
+        return true;
     }
-    if !node_below(source, len) {
-        return false;
+    if node_beyond(n, source) {
+        return true;
     }
-    node_below(bulk, len)
+    node_beyond(n, bulk)
 }
 
 // Row 8. A node below the smaller of the two lengths is below both.
 fn nodes_outside(stage: Stage, t: Terminals, len: usize, rows: usize) -> bool
     ensures { λ r. ⌜ r ≡ nodesOutside stage t len rows ⌝ }
 {
-    if !is_bound(stage) {
+    if unbound(stage) {
         return false;
     }
     if len < rows {
-        return !nodes_below(t, len);
+        return any_node_beyond(len, t);
     }
-    !nodes_below(t, rows)
+    any_node_beyond(rows, t)
 }
 
 fn alpha_inside(alpha: f64) -> bool
@@ -149,12 +151,12 @@ fn early_row(
     offsets: &[usize],
     lengths: &[usize],
 ) -> u8
-    ensures { λ r. ⌜ r ≡ earlyRow (nodesOutside stage t rhs (length (now (offsets .entry)))) (not (isEvaluated stage)) (alphaOutside disc kind) (not (wellFormed (now (columns .entry)) (now (offsets .entry)) (now (lengths .entry)) values)) ⌝ }
+    ensures { λ r. ⌜ r ≡ earlyRow (nodesOutside stage t rhs (length (now (offsets .entry)))) (unevaluated stage) (alphaOutside disc kind) (not (wellFormed (now (columns .entry)) (now (offsets .entry)) (now (lengths .entry)) values)) ⌝ }
 {
     if nodes_outside(stage, t, rhs, offsets.len()) {
         return 8;
     }
-    if !is_evaluated(stage) {
+    if unevaluated(stage) {
         return 10;
     }
     if alpha_outside(disc, kind) {
@@ -176,7 +178,7 @@ pub fn load(
     offsets: &[usize],
     lengths: &[usize],
 ) -> LoadAnswer
-    ensures { λ r. ⌜ Loaded device kind (record { columns = now (columns .entry); offsets = now (offsets .entry); lengths = now (lengths .entry) }) (now (rhs .entry)) (now (values .entry)) r (now (rhs .exit)) (now (values .exit)) ⌝ }
+    ensures { λ r. ⌜ Loaded device kind (record { columns = now (columns .entry); offsets = now (offsets .entry); lengths = now (lengths .entry) }) (now (rhs .entry)) (now (values .entry)) (outcomeOfLoad r) (now (rhs .exit)) (now (values .exit)) ⌝ }
 {
     let stage = device.stage;
     let t = device.terminals;

@@ -7,7 +7,7 @@ use Rattle.loading.proofs.early_row.Tie as tie
 use Rattle.loading.proofs.early_row.Reads as reads
 use Rattle.loading.proofs.early_row.Lts as lts
 use Rattle.loading.proofs.alpha_outside.Reads as alpha-outside-reads
-use Rattle.loading.proofs.is_evaluated.Reads as is-evaluated-reads
+use Rattle.loading.proofs.unevaluated.Reads as unevaluated-reads
 use Rattle.loading.proofs.nodes_outside.Reads as nodes-outside-reads
 use Rattle.pattern.proofs.well_formed.Reads as well-formed-reads
 
@@ -21,13 +21,13 @@ unfolding earlyRow
 returns c = rw (← c .before .nodes-outside .ensures, c .if1 .taken)
 
 -- src/lib.rt:177:9
-is-evaluated-requires : tie.Need-is-evaluated-requires
-is-evaluated-requires c κs = search needs
+unevaluated-requires : tie.Need-unevaluated-requires
+unevaluated-requires c κs = search needs
 
 -- src/lib.rt:178:9
 returns-2 : tie.Need-returns-2
 unfolding earlyRow
-returns-2 c = rw (← c .before .before .before .nodes-outside .ensures, c .before .before .if1 .left, ← c .before .is-evaluated .ensures, not-true (c .before .is-evaluated .result) (c .if2 .taken))
+returns-2 c = rw (← c .before .before .before .nodes-outside .ensures, c .before .before .if1 .left, ← c .before .unevaluated .ensures, c .if2 .taken)
 
 -- src/lib.rt:180:8
 alpha-outside-requires : tie.Need-alpha-outside-requires
@@ -36,7 +36,7 @@ alpha-outside-requires c κs = search needs
 -- src/lib.rt:181:9
 returns-3 : tie.Need-returns-3
 unfolding earlyRow
-returns-3 c = rw (← c .before .before .before .before .before .nodes-outside .ensures, c .before .before .before .before .if1 .left, ← c .before .before .before .is-evaluated .ensures, not-false (c .before .before .before .is-evaluated .result) (c .before .before .if2 .left), ← c .before .alpha-outside .ensures, c .if3 .taken)
+returns-3 c = rw (← c .before .before .before .before .before .nodes-outside .ensures, c .before .before .before .before .if1 .left, ← c .before .before .before .unevaluated .ensures, c .before .before .if2 .left, ← c .before .alpha-outside .ensures, c .if3 .taken)
 
 -- src/lib.rt:183:9
 well-formed-requires : tie.Need-well-formed-requires
@@ -45,12 +45,12 @@ well-formed-requires c κs = search needs
 -- src/lib.rt:184:9
 returns-4 : tie.Need-returns-4
 unfolding earlyRow
-returns-4 c = rw (← c .before .before .before .before .before .before .before .nodes-outside .ensures, c .before .before .before .before .before .before .if1 .left, ← c .before .before .before .before .before .is-evaluated .ensures, not-false (c .before .before .before .before .before .is-evaluated .result) (c .before .before .before .before .if2 .left), ← c .before .before .before .alpha-outside .ensures, c .before .before .if3 .left, ← c .before .well-formed .ensures, not-true (c .before .well-formed .result) (c .if4 .taken))
+returns-4 c = rw (← c .before .before .before .before .before .before .before .nodes-outside .ensures, c .before .before .before .before .before .before .if1 .left, ← c .before .before .before .before .before .unevaluated .ensures, c .before .before .before .before .if2 .left, ← c .before .before .before .alpha-outside .ensures, c .before .before .if3 .left, ← c .before .well-formed .ensures, not-true (c .before .well-formed .result) (c .if4 .taken))
 
 -- src/lib.rt:161:1
 returns-5 : tie.Need-returns-5
 unfolding earlyRow
-returns-5 c = rw (← c .before .before .before .before .before .before .before .nodes-outside .ensures, c .before .before .before .before .before .before .if1 .left, ← c .before .before .before .before .before .is-evaluated .ensures, not-false (c .before .before .before .before .before .is-evaluated .result) (c .before .before .before .before .if2 .left), ← c .before .before .before .alpha-outside .ensures, c .before .before .if3 .left, ← c .before .well-formed .ensures, not-false (c .before .well-formed .result) (c .if4 .left))
+returns-5 c = rw (← c .before .before .before .before .before .before .before .nodes-outside .ensures, c .before .before .before .before .before .before .if1 .left, ← c .before .before .before .before .before .unevaluated .ensures, c .before .before .before .before .if2 .left, ← c .before .before .before .alpha-outside .ensures, c .before .before .if3 .left, ← c .before .well-formed .ensures, not-false (c .before .well-formed .result) (c .if4 .left))
 
 pub early-row-spec : {M : Type 1} → statement M
 early-row-spec =
@@ -58,7 +58,7 @@ early-row-spec =
     (tie.spec
     nodes-outside-requires
     returns
-    is-evaluated-requires
+    unevaluated-requires
     returns-2
     alpha-outside-requires
     returns-3

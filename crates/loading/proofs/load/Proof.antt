@@ -7,7 +7,8 @@ use denote.Ref.{now}
 use borrow.Author.Tests.{not-true, not-false}
 use Rattle.pattern.specs.Pattern.{wellFormed}
 use Rattle.assembly.specs.Assembly.{Pattern}
-use Rattle.loading.specs.Loading.{nodesOutside, isEvaluated, alphaOutside}
+use Rattle.device.specs.Stages.{unevaluated}
+use Rattle.loading.specs.Loading.{nodesOutside, alphaOutside}
 use Rattle.loading.proofs.Rows.{early-well, early-terminals, well-columns, refused-early, refused-late, accepted-late}
 use borrow.Author.Needs.{needs}
 use Rattle.loading.proofs.load.Statement.{statement}
@@ -44,7 +45,7 @@ assemble-requires c κs =
     let passed = sym (g .early-row .ensures) ∙ c .before .before .before .before .before .if1 .left in
     let well = wellFormed (now (s .args .columns)) (now (s .args .offsets)) (now (s .args .lengths)) (length (now (s .args .values))) in (
       well-columns (now (s .args .columns)) (now (s .args .offsets)) (now (s .args .lengths)) (length (now (s .args .values)))
-          (early-well (nodesOutside (s .args .device .stage) (s .args .device .terminals) (length (now (s .args .rhs))) (length (now (s .args .offsets)))) (not (isEvaluated (s .args .device .stage))) (alphaOutside (s .args .device .disc) (s .args .kind)) well passed),
+          (early-well (nodesOutside (s .args .device .stage) (s .args .device .terminals) (length (now (s .args .rhs))) (length (now (s .args .offsets)))) (unevaluated (s .args .device .stage)) (alphaOutside (s .args .device .disc) (s .args .kind)) well passed),
       early-terminals (s .args .device .stage) (s .args .device .terminals) (length (now (s .args .rhs))) (length (now (s .args .offsets))) (alphaOutside (s .args .device .disc) (s .args .kind)) (not well) (omega (arith, s .good .1 .1 .0 .1)) passed,
     )
 
