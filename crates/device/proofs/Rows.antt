@@ -1,10 +1,11 @@
 -- What a call's outcome says of its rows, and how rows that are tested in turn decide it.
 use mathlib.Core.Path.{_≡_, refl, ap, sym, _∙_}
-use mathlib.Core.Bool.{Bool, true, false, cond, not, _&&_}
+use mathlib.Core.Bool.{Bool, true, false, cond, not, _&&_, false≢true}
 use mathlib.Core.List.{List, [], _∷_, _++_}
 use Prim.Native.Nat.{ℕ}
 use native.Mathlib.Omega.{arith}
 use lib.Dec.{T, eqb}
+use borrow.Author.Tests.{eq-eqb}
 use Rattle.device.specs.Refusals.{Row, unless, rowNumber, Outcome, done, refused, valuesOr, _when_}
 use Rattle.device.proofs.Branches.{cond-no}
 
@@ -39,7 +40,7 @@ refused-first ((k when true) ∷ rows) later {n} y refuse x e = let same : n ≡
 refused-first ((k when false) ∷ rows) later y refuse x e = refused-first rows later y refuse x e
 
 -- the outcome by the number of the first row that applies, where no row has the number 0
-abbrev numbered : List Row → Bool
+abbrev pub numbered : List Row → Bool
 numbered [] = true
 numbered ((n when b) ∷ rows) = not (eqb n 0) && numbered rows
 
@@ -51,3 +52,9 @@ pub by-number : {A : Type 0} (rows : List Row) (refuse : ℕ → A) (x : A) → 
 by-number [] refuse x t = refl
 by-number ((n when true) ∷ rows) refuse x t = cond-no _ _ (both (eqb n 0) (numbered rows) t .0)
 by-number ((n when false) ∷ rows) refuse x t = by-number rows refuse x (both (eqb n 0) (numbered rows) t .1)
+
+-- and where that number is 0, no row applies
+pub number-0 : (rows : List Row) → T (numbered rows) → rowNumber rows ≡ 0 → NoneOf rows
+number-0 [] t e = tt
+number-0 ((n when true) ∷ rows) t e = absurd (false≢true (sym (both (eqb n 0) (numbered rows) t .0) ∙ eq-eqb n 0 e))
+number-0 ((n when false) ∷ rows) t e = (refl, number-0 rows (both (eqb n 0) (numbered rows) t .1) e)

@@ -14,7 +14,7 @@ use Rattle.charges.specs.Charges.{gradingOf}
 use Rattle.mosfet1.specs.Steps.{committedHistoriesOf, committedPointOf, committedOf}
 use Rattle.bias.specs.declared.Voltages.{Voltages}
 use Rattle.model.specs.Calls.{commitOf}
-use Rattle.model.specs.declared.calls.Commit.the-variants as Commit
+use Rattle.device.specs.Refusals.{done}
 use Rattle.depletion_sizes.specs.DepletionSizes.{NodeDifference}
 use Rattle.depletion_sizes.proofs.Depletion.{q-depl-atMost}
 use Rattle.evaluation_sizes.specs.Arguments.{VoltagesSizes}
@@ -55,7 +55,7 @@ module _ {d : Mosfet1} (B : ParameterBounds (d .card) (d .geometry) (d .scaled))
   committed-sizes = record { point = committed-point; charges = D .charges; histories = committed-histories; method = D .method }
 
 -- an accepted commit
-pub commit-sizes : {d : Mosfet1} → ParameterBounds (d .card) (d .geometry) (d .scaled) → StateSizes d → (x : List Float) {e : Mosfet1} → commitOf d x ≡ Commit.Done e → StateSizes e
+pub commit-sizes : {d : Mosfet1} → ParameterBounds (d .card) (d .geometry) (d .scaled) → StateSizes d → (x : List Float) {e : Mosfet1} → commitOf d x ≡ done e → StateSizes e
 commit-sizes {d} B D x {e} h =
     let both = commit-accepted d x e h in
     subst StateSizes (sym (both .0)) (committed-sizes B D (both .1 .voltages))

@@ -28,7 +28,7 @@ use Rattle.bias.specs.declared.Voltages.{Voltages}
 use Rattle.mosfet1.specs.declared.steps.Conditions.{Conditions}
 use Rattle.mosfet1.specs.declared.steps.Evaluated.{Evaluated}
 use Rattle.model.specs.Calls.{evalOf}
-use Rattle.model.specs.declared.calls.Evaluation.the-variants as Evaluation
+use Rattle.device.specs.Refusals.{done}
 use Rattle.depletion_sizes.specs.DepletionSizes.{NodeDifference}
 use Rattle.depletion_sizes.proofs.Depletion.{cj-depl-atMost, q-depl-atMost}
 use Rattle.evaluation_sizes.specs.Arguments.{NodeVoltage, VoltagesSizes, MethodSizes}
@@ -135,7 +135,7 @@ module _ {d : Mosfet1} (B : ParameterBounds (d .card) (d .geometry) (d .scaled))
       }
 
 -- an accepted evaluation
-pub eval-sizes : {d : Mosfet1} → ParameterBounds (d .card) (d .geometry) (d .scaled) → StateSizes d → (x : List Float) (transient : Bool) (k : Conditions) {e : Evaluated} → evalOf d x transient k ≡ Evaluation.Done e → StateSizes (e .device) × AnswerSizes (e .answer)
+pub eval-sizes : {d : Mosfet1} → ParameterBounds (d .card) (d .geometry) (d .scaled) → StateSizes d → (x : List Float) (transient : Bool) (k : Conditions) {e : Evaluated} → evalOf d x transient k ≡ done e → StateSizes (e .device) × AnswerSizes (e .answer)
 unfolding evaluatedOf evaluatedFromOf
 eval-sizes {d} B D x transient k {e} h =
     let both = eval-accepted d x transient k e h in

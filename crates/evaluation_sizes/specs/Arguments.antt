@@ -7,12 +7,14 @@ use lib.Ieee.{Float}
 use Rattle.exact.specs.Fraction.{nat, negq}
 use Rattle.exact.specs.FloatValue.{value}
 use Rattle.exact.specs.Size.{Range}
+use Rattle.device.specs.Nodes.{anyNodeBeyond}
+use Rattle.device.specs.Stages.{unbound, unevaluated}
 use Rattle.device.specs.declared.Discretisation.{Discretisation}
 use Rattle.device.specs.declared.Discretisation.the-variants.{None, Euler, Trapezoid, Gear}
 use Rattle.device.specs.declared.Mosfet1.{Mosfet1}
 use Rattle.bias.specs.declared.Voltages.{Voltages}
 use Rattle.mosfet1.specs.declared.steps.Conditions.{Conditions}
-use Rattle.rows.specs.Rows.{shortestStep, voltagesOf, row8Of, unboundOf, unevaluatedOf}
+use Rattle.rows.specs.Rows.{shortestStep, voltagesOf}
 
 -- row 9: "one of the four voltages read is not finite or beyond ±1,000 V"
 abbrev pub NodeVoltage : Float → Type 0
@@ -38,13 +40,13 @@ pub data MethodSizes : Discretisation → Type 0 where
 pub record EvaluationAccepted (d : Mosfet1) (x : List Float) (k : Conditions) : Type 0 where
   pub temperature : Range (k .temperature .0) (nat 200) (nat 500)
   pub gmin : Range (k .gmin) (nat 0) (nat 1)
-  pub nodes : row8Of (length x) (d .terminals) ≡ false
+  pub nodes : anyNodeBeyond (length x) (d .terminals) ≡ false
   pub voltages : VoltagesSizes (voltagesOf x (d .terminals))
-  pub bound : unboundOf (d .stage) ≡ false
+  pub bound : unbound (d .stage) ≡ false
   pub method : MethodSizes (k .method)
 
 -- no row of a commit applies: rows 8, 9 and 10
 pub record CommitAccepted (d : Mosfet1) (x : List Float) : Type 0 where
-  pub nodes : row8Of (length x) (d .terminals) ≡ false
+  pub nodes : anyNodeBeyond (length x) (d .terminals) ≡ false
   pub voltages : VoltagesSizes (voltagesOf x (d .terminals))
-  pub evaluated : unevaluatedOf (d .stage) ≡ false
+  pub evaluated : unevaluated (d .stage) ≡ false

@@ -1,19 +1,20 @@
--- The row of a commit's answer is the row that was tested for.
-use Prim.Native.Nat.{ℕ}
-use mathlib.Core.Path.{_≡_, refl}
+-- The number of a commit's outcome is that of the row that refuses it.
+use mathlib.Core.Path.{_≡_, refl, sym, ap, _∙_}
 use mathlib.Core.Bool.{Bool, true, false, cond}
-use lib.Dec.{eqb}
+use mathlib.Core.List.{List}
+use Prim.Native.Nat.{ℕ}
 use borrow.Author.Tests.{eqb-true}
+use lib.Dec.{eqb}
+use lib.Ieee.{Float}
+use Rattle.device.specs.Refusals.{Outcome, done, refused, number}
 use Rattle.device.specs.declared.Mosfet1.{Mosfet1}
-use Rattle.model.specs.Calls.{commitAnswerOf}
-use Rattle.model.specs.declared.calls.Commit.the-variants.{Done, Refused}
-use Rattle.in_place.specs.InPlace.{rowOf}
+use Rattle.rows.specs.Rows.{commitRowOf}
+use Rattle.model.specs.Calls.{commitOf}
+use Rattle.model.proofs.ByRow.{commit-by-row}
 
-by-test : (b : Bool) (n : ℕ) (e : Mosfet1) → eqb n 0 ≡ b → n ≡ rowOf (cond b (Done e) (Refused n))
-unfolding rowOf
-by-test true n e h = eqb-true n 0 h
-by-test false n e h = refl
+by-test : (row : ℕ) (e : Mosfet1) (b : Bool) → eqb row 0 ≡ b → row ≡ number (cond b (done e) (refused row))
+by-test row e true t = eqb-true row 0 t
+by-test row e false t = refl
 
-pub row-answered : (n : ℕ) (e : Mosfet1) → n ≡ rowOf (commitAnswerOf n e)
-unfolding commitAnswerOf
-row-answered n e = by-test (eqb n 0) n e refl
+pub row-answered : (d : Mosfet1) (x : List Float) → commitRowOf (d .stage) (d .terminals) x ≡ number (commitOf d x)
+row-answered d x = by-test (commitRowOf (d .stage) (d .terminals) x) _ (eqb (commitRowOf (d .stage) (d .terminals) x) 0) refl ∙ ap (λ (o : Outcome Mosfet1). number o) (sym (commit-by-row d x))

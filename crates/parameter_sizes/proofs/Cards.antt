@@ -19,6 +19,7 @@ use Rattle.exact.proofs.Computing.{computing}
 use Rattle.temperature_sizes.proofs.Intervals.{constant-in}
 use Rattle.device.specs.Limits.{coldest, hottest}
 use Rattle.device.specs.declared.Card.{Card}
+use Rattle.device.specs.Refusals.{done}
 use Rattle.device.specs.declared.Mosfet1.{Mosfet1}
 use Rattle.keys.specs.Names.{meaningOf}
 use Rattle.keys.specs.Picks.{isSet, pick}
@@ -27,10 +28,9 @@ use Rattle.keys.specs.declared.Key.the-variants.{Vto, Kp, Uo, Is, Js, Lambda, G
 use Rattle.keys.specs.declared.Meaning.{Meaning}
 use Rattle.keys.specs.declared.Range.the-variants.{Within}
 use Rattle.keys.specs.declared.Table.the-variants as Table
-use Rattle.entries.specs.Entries.{entriesOf}
+use Rattle.entries.specs.Entries.{entriesOf, Keyed}
 use Rattle.card.specs.Card.{+1e-4, assigned, parametersOf, defaultsOf, kpFrom, polarityOf, givenIf, cardRecordOf, freshGeometry, freshScaled, freshDevice, cardOf}
 use Rattle.card.specs.declared.Parameters.{Parameters}
-use Rattle.card.specs.declared.CardAnswer.the-variants as Answer
 use Rattle.accepted.specs.Bounds.{InRange, OxideFrom, ParametersInRange}
 use Rattle.accepted.specs.Bounds as Oxide
 use Rattle.accepted.proofs.Bounds.{one-square}
@@ -199,20 +199,20 @@ fresh-scaled-sizes C =
     }
 
 -- ---- the call
-module _ (isPmos : Bool) (bytes offsets lengths : List ℕ) (values : List Float) (space n : ℕ) (d : Mosfet1) (e : cardOf isPmos bytes offsets lengths values space ≡ Answer.Done d n) where
+module _ (isPmos : Bool) (bytes offsets lengths : List ℕ) (values : List Float) (space : ℕ) (k : Keyed) (e : cardOf isPmos bytes offsets lengths values space ≡ done k) where
   abbrev read : Parameters
   read = parametersOf (defaultsOf isPmos) (entriesOf bytes offsets lengths values)
 
-  made : d ≡ freshDevice isPmos read
-  made = card-accepted isPmos bytes offsets lengths values space n d e .0
+  made : k .device ≡ freshDevice isPmos read
+  made = card-accepted isPmos bytes offsets lengths values space k e .0
 
   -- an accepted card of f64s leaves every parameter within its bounds, the geometry's and the scaling's too
-  pub card-sizes : Every F64 values → DeviceSizes d
+  pub card-sizes : Every F64 values → DeviceSizes (k .device)
   card-sizes fs =
-      let h = card-accepted isPmos bytes offsets lengths values space n d e .1 in
+      let h = card-accepted isPmos bytes offsets lengths values space k e .1 in
       let C = card-record-sizes isPmos h (parameters-fit bytes (defaultsOf isPmos) offsets lengths fs (defaults-fit isPmos)) in
       subst DeviceSizes (sym made) (record { card = C; geometry = fresh-geometry-sizes (h .rd) (h .rs); scaled = fresh-scaled-sizes C })
 
   -- and nothing but a card
-  pub fresh-state : FreshState d
+  pub fresh-state : FreshState (k .device)
   fresh-state = subst FreshState (sym made) (record { terminals = refl; point = refl; charges = refl; histories = refl; disc = refl; stage = refl })

@@ -8,13 +8,14 @@ use lib.Ieee.{Float}
 use Rattle.exact.specs.Float64.{_⊗_, _>f_, +0}
 use Rattle.exact.specs.Size.{minus}
 use Rattle.exact.proofs.Computing.{computing}
+use Rattle.device.specs.Refusals.{done}
 use Rattle.device.specs.declared.Card.{Card}
 use Rattle.device.specs.declared.Given.{Given}
 use Rattle.device.specs.declared.Mosfet1.{Mosfet1}
 use Rattle.keys.specs.declared.Key.the-variants.{W, L, Nrd, Nrs, As, Ad, Ps, Pd}
 use Rattle.geometry.specs.Geometry.{orElse, saturation, geometryRecordOf, geometryOf}
 use Rattle.geometry.specs.declared.Sizes.{Sizes}
-use Rattle.geometry.specs.declared.GeometryAnswer.the-variants as Answer
+use Rattle.entries.specs.Entries.{Keyed}
 use Rattle.accepted.specs.Bounds.{InRange, SizesInRange}
 use Rattle.accepted.proofs.Accepted.{geometry-accepted}
 use Rattle.parameter_sizes.specs.ParameterSizes.{FromZero, ZeroOrBetween, GivenResistance, absent, given, CardSizes, GeometrySizes, DeviceSizes}
@@ -69,15 +70,15 @@ module _ {c : Card} (C : CardSizes c) {s : Sizes} (h : SizesInRange s) where
       }
 
 -- ---- the call
-module _ (d : Mosfet1) (bytes offsets lengths : List ℕ) (values : List Float) (space n : ℕ) (after : Mosfet1) (e : geometryOf d bytes offsets lengths values space ≡ Answer.Done after n) where
+module _ (d : Mosfet1) (bytes offsets lengths : List ℕ) (values : List Float) (space : ℕ) (k : Keyed) (e : geometryOf d bytes offsets lengths values space ≡ done k) where
   -- on a device whose card is within its bounds and whose squares are in range
-  pub geometry-sizes : CardSizes (d .card) → InRange Nrd (d .geometry .nrd) → InRange Nrs (d .geometry .nrs) → GeometrySizes (after .geometry)
+  pub geometry-sizes : CardSizes (d .card) → InRange Nrd (d .geometry .nrd) → InRange Nrs (d .geometry .nrs) → GeometrySizes (k .device .geometry)
   geometry-sizes C nrd nrs =
-      let a = geometry-accepted d bytes offsets lengths values space n after nrd nrs e in
+      let a = geometry-accepted d bytes offsets lengths values space k nrd nrs e in
       subst (λ (u : Mosfet1). GeometrySizes (u .geometry)) (sym (a .0)) (geometry-record-sizes C (a .1))
 
   -- the bounds of a device are kept
-  pub geometry-keeps-sizes : DeviceSizes d → DeviceSizes after
+  pub geometry-keeps-sizes : DeviceSizes d → DeviceSizes (k .device)
   geometry-keeps-sizes D =
-      let a = geometry-accepted d bytes offsets lengths values space n after (D .geometry .nrd) (D .geometry .nrs) e in
+      let a = geometry-accepted d bytes offsets lengths values space k (D .geometry .nrd) (D .geometry .nrs) e in
       subst DeviceSizes (sym (a .0)) (record { card = D .card; geometry = geometry-record-sizes (D .card) (a .1); scaled = D .scaled })

@@ -20,12 +20,12 @@ use Rattle.temperature_sizes.proofs.Held.{scaled-phi-fits, scaled-vto-fits, cap
 use Rattle.temperature_sizes.proofs.Sizes.{is-factor-positive, is-factor-atMost, is-factor-atLeast, mobility-factor-positive, mobility-factor-atMost, scaled-vto-atMost, cap-factor-atMost}
 use Rattle.device.specs.Limits.{outsideTemperatures, coldest, hottest}
 use Rattle.device.specs.declared.Card.{Card}
+use Rattle.device.specs.Refusals.{done}
 use Rattle.device.specs.declared.Mosfet1.{Mosfet1}
 use Rattle.device.specs.declared.NodeId.{NodeId}
 use Rattle.keys.specs.declared.Range.the-variants.{Within}
 use Rattle.setup.specs.Binding.{bindingOf}
 use Rattle.setup.specs.Scaling.{scaledAt, leastPotential, potentialsLow, scalingOf}
-use Rattle.setup.specs.declared.SetupAnswer.the-variants.{Done}
 use Rattle.parameter_sizes.specs.ParameterSizes.{FromZero, F64In, CardSizes, ScaledSizes, DeviceSizes}
 use Rattle.parameter_sizes.proofs.SizeLaws.{fromZero-⊗}
 use Rattle.parameter_sizes.proofs.KeyRanges.{passes-range}
@@ -33,12 +33,12 @@ use Rattle.parameter_sizes.proofs.Rows.{neither}
 use Rattle.parameter_sizes.proofs.SetupRows.{scaling-accepted, binding-accepted}
 
 -- ---- what rows 6 and 7 let pass
-ordinary-range : {t : Kelvin} → outsideTemperatures t ≡ false → Ordinary (t .0)
+ordinary-range : {t : Kelvin} → outsideTemperatures t ≡ false → Ordinary t
 unfolding computing
-ordinary-range e = passes-range (Within coldest hottest) (nat 200) (nat 500) tt e
+ordinary-range e = record { range = passes-range (Within coldest hottest) (nat 200) (nat 500) tt e }
 
 -- a potential from the f64 0.05, which is above 1 // 20, to 32
-module _ {phi : Float} (P : F64In phi (1 // 10) (nat 10)) {tnom t : Float} (N : Ordinary tnom) (K : Ordinary t) (e : (scaledPhiOf phi t tnom <f leastPotential) ≡ false) where
+module _ {phi : Float} (P : F64In phi (1 // 10) (nat 10)) {tnom t : Kelvin} (N : Ordinary tnom) (K : Ordinary t) (e : (scaledPhiOf phi t tnom <f leastPotential) ≡ false) where
   potential : F64In (scaledPhiOf phi t tnom) (1 // 20) (nat 32)
   unfolding computing
   potential =
@@ -47,14 +47,14 @@ module _ {phi : Float} (P : F64In phi (1 // 10) (nat 10)) {tnom t : Float} (N : 
       record { f64 = scaled-phi-fits phi t tnom (P .f64); range = record { fin = S .fin; above = ≤-trans (lit-≤ tt) l; below = S .below } }
 
 -- ---- the scaled parameters
-module _ {c : Card} (C : CardSizes c) {t : Float} (K : Ordinary t) (e : potentialsLow (scaledAt c t) ≡ false) where
+module _ {c : Card} (C : CardSizes c) {t : Kelvin} (K : Ordinary t) (e : potentialsLow (scaledAt c t) ≡ false) where
   scaled-record-sizes : ScaledSizes (scaledAt c t)
   unfolding computing
   scaled-record-sizes =
-      let N = C .tnom .range in
+      let N : Ordinary (c .tnom) = record { range = C .tnom .range } in
       let high = neither (scaledAt c t .«phi_t» <f leastPotential) (scaledAt c t .«pb_t» <f leastPotential) e in
       let phiT = potential (C .phi) N K (high .0) in
-      let tnom = c .tnom .0 in
+      let tnom = c .tnom in
       let isPmos = c .polarity <f +0 in
       let mobility : FromZero (mobilityFactorOf t tnom) (pos 2) = record { sign = nonNegative-of (mobility-factor-positive K N); atMost = mobility-factor-atMost K N } in
       record {
@@ -68,7 +68,7 @@ module _ {c : Card} (C : CardSizes c) {t : Float} (K : Ordinary t) (e : potentia
       }
 
 -- ---- the call
-module _ (d : Mosfet1) (t : Kelvin) (after : Mosfet1) (e : scalingOf d t ≡ Done after) where
+module _ (d : Mosfet1) (t : Kelvin) (after : Mosfet1) (e : scalingOf d t ≡ done after) where
   -- on a device whose card is within its bounds
   pub scaling-sizes : CardSizes (d .card) → ScaledSizes (after .scaled)
   scaling-sizes C =
@@ -82,6 +82,6 @@ module _ (d : Mosfet1) (t : Kelvin) (after : Mosfet1) (e : scalingOf d t ≡ Don
       subst DeviceSizes (sym (a .made)) (record { card = D .card; geometry = D .geometry; scaled = scaled-record-sizes (D .card) (ordinary-range (a .row-6)) (a .row-7) })
 
 -- a binding leaves card, geometry and scaled parameters as they are
-pub binding-keeps-sizes : (d : Mosfet1) (drain gate source bulk : NodeId) (first : ℕ) (after : Mosfet1) → bindingOf d drain gate source bulk first ≡ Done after → DeviceSizes d → DeviceSizes after
+pub binding-keeps-sizes : (d : Mosfet1) (drain gate source bulk : NodeId) (first : ℕ) (after : Mosfet1) → bindingOf d drain gate source bulk first ≡ done after → DeviceSizes d → DeviceSizes after
 binding-keeps-sizes d drain gate source bulk first after e D =
     subst DeviceSizes (sym (binding-accepted d drain gate source bulk first after e .made)) (record { card = D .card; geometry = D .geometry; scaled = D .scaled })

@@ -42,7 +42,7 @@ use denote.Triple.Table.{entered, cited}
 use denote.Triple.Walked.{says, Stays, stay-ref, stay-none-slice, walkOf, AllGo, goes-ref, goes-none-slice, Walks, ends-at, walked, walk-meets}
 use denote.Exit.{yes}
 use Rattle.model.specs.Calls.{commitOf}
-use Rattle.in_place.specs.InPlace.{rowOf, deviceOf}
+use Rattle.device.specs.Refusals.{number, valuesOr}
 use Rattle.device.specs.declared.Mosfet1.{Mosfet1}
 use Rattle.device.proofs.Mosfet1 as T
 use Rattle.device.proofs.Mosfet1.Laws as T′
@@ -92,10 +92,10 @@ module _ {M : Type 1} (𝓤 : URA M) (H : Heap 𝓤) (A : Atoms 𝓤) (W : Given
   vals = (vptr b o ∷ [], (v ∷ [], tt))
 
   abbrev row : ℕ
-  row = rowOf (commitOf h (s .now))
+  row = number (commitOf h (s .now))
 
   abbrev new : Mosfet1
-  new = deviceOf h (commitOf h (s .now))
+  new = valuesOr h (commitOf h (s .now))
 
   abbrev Post : Val → SProp 𝓤
   Post = walkOf 𝓤 H A fn.ended stayed (fn.clauses 𝓤 H A at-mem run) .post (((κ, (κ′, tt)), (q, (q′, tt)), tt, a, vals), tt)

@@ -1,6 +1,7 @@
 use mathlib.Core.Path.{sym, ap, _∙_}
 use borrow.Author.Needs.{needs}
-use Rattle.in_place.specs.InPlace.{deviceOf}
+use Rattle.device.specs.Refusals.{valuesOr}
+use Rattle.model.specs.Calls.{outcomeOfCommit}
 use Rattle.in_place.proofs.device_after.Statement.{statement}
 use Rattle.in_place.proofs.device_after.Tie as tie
 
@@ -14,12 +15,10 @@ enum-told : tie.Need-enum-told
 enum-told c = search needs
 
 returns : tie.Need-returns
-unfolding deviceOf
-returns c = ap (deviceOf (c .before .before .before .before .before .args .d)) (sym (c .before .e .given .1) ∙ c .before .before .before .commit-timestep .ensures)
+returns c = ap (valuesOr (c .before .before .before .before .before .args .d)) (sym (ap outcomeOfCommit (c .before .e .given .1)) ∙ c .before .before .before .commit-timestep .ensures)
 
 returns-2 : tie.Need-returns-2
-unfolding deviceOf
-returns-2 c = ap (deviceOf (c .before .before .before .before .args .d)) (sym (c .enum-told .given .1) ∙ c .before .before .commit-timestep .ensures)
+returns-2 c = ap (valuesOr (c .before .before .before .before .args .d)) (sym (ap outcomeOfCommit (c .enum-told .given .1)) ∙ c .before .before .commit-timestep .ensures)
 
 pub device-after-spec : {M : Type 1} → statement M
 device-after-spec = tie.close (tie.spec commit-timestep-requires enum-known-e enum-told returns returns-2)

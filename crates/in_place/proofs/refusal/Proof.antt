@@ -1,4 +1,3 @@
-use Rattle.model.specs.Calls.{commitOf}
 use Rattle.in_place.proofs.Row.{row-answered}
 use Rattle.in_place.proofs.refusal.Statement.{statement}
 use Rattle.in_place.proofs.refusal.Tie as tie
@@ -7,7 +6,6 @@ commit-row-requires : tie.Need-commit-row-requires
 commit-row-requires c κs = tt
 
 returns : tie.Need-returns
-unfolding commitOf
 returns c = rw (c .commit-row .ensures) (row-answered _ _)
 
 pub refusal-spec : {M : Type 1} → statement M
