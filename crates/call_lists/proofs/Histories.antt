@@ -3,34 +3,29 @@ use Prim.Native.Nat.{ℕ}
 use mathlib.Core.Path.{_≡_, refl, sym, ap, _∙_}
 use mathlib.Core.Bool.{Bool, true, false, cond}
 use mathlib.Core.List.{List, [], _∷_}
-use lib.Dec.{eqb}
 use lib.Ieee.{Float}
 use lib.ListN.{length}
+use Rattle.device.specs.Refusals.{Outcome, done, refused}
 use Rattle.device.specs.declared.ChargeHistory.{ChargeHistory}
 use Rattle.device.specs.declared.Discretisation.{Discretisation}
 use Rattle.device.specs.declared.Discretisation.the-variants.{None, Euler, Trapezoid, Gear}
 use Rattle.device.specs.declared.Histories.{Histories}
 use Rattle.device.specs.declared.Mosfet1.{Mosfet1}
 use Rattle.reactive.specs.Charge.{recordedOf, hasStepOf, advanceOf}
+use Rattle.entries.specs.Entries.{Keyed}
 use Rattle.geometry.specs.Geometry.{geometryOf, geometryRows, geometryListOf}
-use Rattle.geometry.specs.declared.GeometryAnswer.{GeometryAnswer}
-use Rattle.geometry.specs.declared.GeometryAnswer.the-variants as Geometry
-use Rattle.setup.specs.Scaling.{scalingOf}
-use Rattle.setup.specs.Binding.{bindingOf}
-use Rattle.setup.specs.declared.SetupAnswer.{SetupAnswer}
-use Rattle.setup.specs.declared.SetupAnswer.the-variants as Setup
+use Rattle.setup.specs.Scaling.{scalingOf, scalingRows}
+use Rattle.setup.specs.Binding.{bindingOf, bindingRows, boundTerminals}
 use Rattle.mosfet1.specs.Steps.{evaluatedOf, evaluatedFromOf, committedOf, committedHistoriesOf}
 use Rattle.bias.specs.declared.Voltages.{Voltages}
 use Rattle.mosfet1.specs.declared.steps.Evaluated.{Evaluated}
-use Rattle.model.specs.Calls.{evalOf, evaluationOf, commitOf, commitAnswerOf}
-use Rattle.rows.specs.Rows.{voltagesOf, commitRowOf}
-use Rattle.model.specs.declared.calls.Evaluation.the-variants as Evaluation
-use Rattle.model.specs.declared.calls.Commit.the-variants as Commit
+use Rattle.model.specs.Calls.{evalOf, commitOf}
+use Rattle.rows.specs.Rows.{voltagesOf, evalRows, commitRows}
 use Rattle.accepted.proofs.Accepted.{card-accepted}
 use Rattle.call_lists.specs.Calls.{Call, geometry, scaling, binding, evaluation, loading, commit, noise, reactances, geometryAnswer, setupAnswer, evaluationAnswer, commitAnswer, answer, isDone, deviceLeft, accepted, after, run}
 use Rattle.call_lists.specs.F64.{Fresh}
 use Rattle.call_lists.specs.Recount.{nothingHeld, atFirst, currentOf, putIn, committedCharges, putAllIn, counted, recountFrom, recount}
-use Rattle.call_lists.proofs.Outcomes.{unless-either, scalingRows, bindingRows, boundTerminals, rowAt}
+use Rattle.call_lists.proofs.Outcomes.{unless-either}
 
 -- ---- one commit
 
@@ -64,31 +59,25 @@ same-commit d v =
 
 -- ---- one call
 
-commit-counted : (b : Bool) (row : ℕ) (d made : Mosfet1) {held : Histories} → held ≡ made .histories → cond (isDone (commitAnswer (cond b (Commit.Done made) (Commit.Refused row)))) held (d .histories) ≡ deviceLeft d (commitAnswer (cond b (Commit.Done made) (Commit.Refused row))) .histories
-unfolding isDone deviceLeft
-commit-counted true row d made h = h
-commit-counted false row d made h = refl
-
-evaluation-counted : (b : Bool) (row : ℕ) (d : Mosfet1) (made : Evaluated) → d .histories ≡ made .device .histories → d .histories ≡ deviceLeft d (evaluationAnswer (cond b (Evaluation.Done made) (Evaluation.Refused row))) .histories
-unfolding deviceLeft
-evaluation-counted true row d made h = h
-evaluation-counted false row d made h = refl
-
 -- what is held is the device's histories before a call, so it is after it
 counted-after : (c : Call) (d : Mosfet1) → counted (d .histories) c d ≡ after c d .histories
-unfolding counted after answer accepted deviceLeft geometryOf scalingOf bindingOf evalOf evaluationOf evaluatedOf evaluatedFromOf commitOf commitAnswerOf
+unfolding counted after answer accepted isDone deviceLeft geometryOf scalingOf bindingOf evalOf evaluatedOf evaluatedFromOf commitOf
 counted-after (geometry bytes offsets lengths values list) d =
-    unless-either (λ (a : GeometryAnswer). d .histories ≡ deviceLeft d (geometryAnswer a (geometryListOf d bytes offsets lengths values list)) .histories)
-    (geometryRows d bytes offsets lengths values (length list)) Geometry.Refused _ (λ n. refl) refl
+    unless-either (λ (a : Outcome Keyed). d .histories ≡ deviceLeft d (geometryAnswer a (geometryListOf d bytes offsets lengths values list)) .histories)
+    (geometryRows d bytes offsets lengths values (length list)) refused _ (λ n. refl) refl
 counted-after (scaling t) d =
-    unless-either (λ (a : SetupAnswer). d .histories ≡ deviceLeft d (setupAnswer a) .histories) (scalingRows d t) Setup.Refused _ (λ n. refl) refl
+    unless-either (λ (a : Outcome Mosfet1). d .histories ≡ deviceLeft d (setupAnswer a) .histories) (scalingRows d t) refused _ (λ n. refl) refl
 counted-after (binding drain gate source bulk first) d =
-    unless-either (λ (a : SetupAnswer). d .histories ≡ deviceLeft d (setupAnswer a) .histories)
-    (bindingRows d (boundTerminals d drain gate source bulk first)) Setup.Refused _ (λ n. refl) refl
-counted-after (evaluation x transient k) d = evaluation-counted (eqb (rowAt d x k) 0) (rowAt d x k) d _ refl
+    unless-either (λ (a : Outcome Mosfet1). d .histories ≡ deviceLeft d (setupAnswer a) .histories)
+    (bindingRows d (boundTerminals d drain gate source bulk first)) refused _ (λ n. refl) refl
+counted-after (evaluation x transient k) d =
+    unless-either (λ (a : Outcome Evaluated). d .histories ≡ deviceLeft d (evaluationAnswer a) .histories)
+    (evalRows (d .stage) (d .terminals) x (k .temperature) (k .gmin) (k .method)) refused _ (λ n. refl) refl
 counted-after (loading kind P rhs values) d = refl
 counted-after (commit x) d =
-    commit-counted (eqb (commitRowOf (d .stage) (d .terminals) x) 0) (commitRowOf (d .stage) (d .terminals) x) d _ (same-commit d (voltagesOf x (d .terminals)))
+    let held = putAllIn (d .disc) (committedCharges (d .card) (d .geometry) (d .scaled) (d .charges) (voltagesOf x (d .terminals))) (d .histories) in
+    unless-either (λ (a : Outcome Mosfet1). cond (isDone (commitAnswer a)) held (d .histories) ≡ deviceLeft d (commitAnswer a) .histories)
+    (commitRows (d .stage) (d .terminals) x) refused _ (λ n. refl) (same-commit d (voltagesOf x (d .terminals)))
 counted-after (noise t freq) d = refl
 counted-after reactances d = refl
 
@@ -103,7 +92,7 @@ recounted-from (c ∷ calls) d held h =
 fresh-histories : {d : Mosfet1} → Fresh d → d .histories ≡ atFirst
 unfolding atFirst nothingHeld
 fresh-histories {d} f =
-    ap (λ (e : Mosfet1). e .histories) (card-accepted (f .isPmos) (f .bytes) (f .offsets) (f .lengths) (f .values) (f .space) (f .count) d (f .returned) .0)
+    ap (λ (e : Mosfet1). e .histories) (card-accepted (f .isPmos) (f .bytes) (f .offsets) (f .lengths) (f .values) (f .space) _ (f .returned) .0)
 
 -- After every list of calls on a fresh device the device's histories are those of the recount.
 pub histories-are-recounted : (calls : List Call) (d : Mosfet1) → Fresh d → run calls d .histories ≡ recount calls d

@@ -7,23 +7,17 @@ use mathlib.Core.List.{List, [], _∷_, _++_}
 use lib.Ieee.{Float}
 use lib.ListN.{length}
 use Rattle.temperature.specs.declared.Kelvin.{Kelvin}
+use Rattle.device.specs.Refusals.{Outcome, done, refused}
 use Rattle.device.specs.declared.Mosfet1.{Mosfet1}
 use Rattle.device.specs.declared.NodeId.{NodeId}
+use Rattle.entries.specs.Entries.{Keyed}
 use Rattle.geometry.specs.Geometry.{geometryOf, geometryListOf}
-use Rattle.geometry.specs.declared.GeometryAnswer.{GeometryAnswer}
-use Rattle.geometry.specs.declared.GeometryAnswer.the-variants as Geometry
 use Rattle.setup.specs.Scaling.{scalingOf}
 use Rattle.setup.specs.Binding.{bindingOf}
-use Rattle.setup.specs.declared.SetupAnswer.{SetupAnswer}
-use Rattle.setup.specs.declared.SetupAnswer.the-variants as Setup
 use Rattle.bias.specs.declared.Kept.{Kept}
 use Rattle.mosfet1.specs.declared.steps.Conditions.{Conditions}
 use Rattle.mosfet1.specs.declared.steps.Evaluated.{Evaluated}
 use Rattle.model.specs.Calls.{evalOf, commitOf}
-use Rattle.model.specs.declared.calls.Evaluation.{Evaluation}
-use Rattle.model.specs.declared.calls.Evaluation.the-variants as Evaluation
-use Rattle.model.specs.declared.calls.Commit.{Commit}
-use Rattle.model.specs.declared.calls.Commit.the-variants as Commit
 use Rattle.call_lists.specs.Calls.{Call, geometry, scaling, binding, evaluation, loading, commit, noise, reactances, geometryAnswer, setupAnswer, evaluationAnswer, commitAnswer, answer, deviceLeft, after, run}
 use Rattle.call_lists.specs.F64.{Every, none, next, F64, IsF64}
 use Rattle.call_lists.specs.LastEvaluation.{EvaluationMade, made, lastEvaluation}
@@ -32,38 +26,38 @@ use Rattle.call_lists.proofs.Prefix.{last-evaluation-stands}
 -- ---- a property of devices that each accepted call keeps
 
 pub record Keeps (P : Mosfet1 → Type 0) : Type 0 where
-  pub sized : (d : Mosfet1) (bytes offsets lengths : List ℕ) (values : List Float) (space count : ℕ) (e : Mosfet1) → Every F64 values → geometryOf d bytes offsets lengths values space ≡ Geometry.Done e count → P d → P e
-  pub scaled : (d : Mosfet1) (t : Kelvin) (e : Mosfet1) → F64 (t .0) → scalingOf d t ≡ Setup.Done e → P d → P e
-  pub bound : (d : Mosfet1) (drain gate source bulk : NodeId) (first : ℕ) (e : Mosfet1) → bindingOf d drain gate source bulk first ≡ Setup.Done e → P d → P e
-  pub evaluated : (d : Mosfet1) (x : List Float) (transient : Bool) (k : Conditions) (e : Evaluated) → IsF64 (evaluation x transient k) → evalOf d x transient k ≡ Evaluation.Done e → P d → P (e .device)
-  pub committed : (d : Mosfet1) (x : List Float) (e : Mosfet1) → Every F64 x → commitOf d x ≡ Commit.Done e → P d → P e
+  pub sized : (d : Mosfet1) (bytes offsets lengths : List ℕ) (values : List Float) (space : ℕ) (k : Keyed) → Every F64 values → geometryOf d bytes offsets lengths values space ≡ done k → P d → P (k .device)
+  pub scaled : (d : Mosfet1) (t : Kelvin) (e : Mosfet1) → F64 (t .0) → scalingOf d t ≡ done e → P d → P e
+  pub bound : (d : Mosfet1) (drain gate source bulk : NodeId) (first : ℕ) (e : Mosfet1) → bindingOf d drain gate source bulk first ≡ done e → P d → P e
+  pub evaluated : (d : Mosfet1) (x : List Float) (transient : Bool) (k : Conditions) (e : Evaluated) → IsF64 (evaluation x transient k) → evalOf d x transient k ≡ done e → P d → P (e .device)
+  pub committed : (d : Mosfet1) (x : List Float) (e : Mosfet1) → Every F64 x → commitOf d x ≡ done e → P d → P e
 
-geometry-keeps : (P : Mosfet1 → Type 0) (d : Mosfet1) (list : List ℕ) (a : GeometryAnswer) → ((e : Mosfet1) (n : ℕ) → a ≡ Geometry.Done e n → P e) → P d → P (deviceLeft d (geometryAnswer a list))
+geometry-keeps : (P : Mosfet1 → Type 0) (d : Mosfet1) (list : List ℕ) (a : Outcome Keyed) → ((k : Keyed) → a ≡ done k → P (k .device)) → P d → P (deviceLeft d (geometryAnswer a list))
 unfolding deviceLeft
-geometry-keeps P d list (Geometry.Done e n) done p = done e n refl
-geometry-keeps P d list (Geometry.Refused n) done p = p
+geometry-keeps P d list (done k) kept p = kept k refl
+geometry-keeps P d list (refused n) kept p = p
 
-setup-keeps : (P : Mosfet1 → Type 0) (d : Mosfet1) (a : SetupAnswer) → ((e : Mosfet1) → a ≡ Setup.Done e → P e) → P d → P (deviceLeft d (setupAnswer a))
+setup-keeps : (P : Mosfet1 → Type 0) (d : Mosfet1) (a : Outcome Mosfet1) → ((e : Mosfet1) → a ≡ done e → P e) → P d → P (deviceLeft d (setupAnswer a))
 unfolding deviceLeft
-setup-keeps P d (Setup.Done e) done p = done e refl
-setup-keeps P d (Setup.Refused n) done p = p
+setup-keeps P d (done e) kept p = kept e refl
+setup-keeps P d (refused n) kept p = p
 
-evaluation-keeps : (P : Mosfet1 → Type 0) (d : Mosfet1) (a : Evaluation) → ((e : Evaluated) → a ≡ Evaluation.Done e → P (e .device)) → P d → P (deviceLeft d (evaluationAnswer a))
+evaluation-keeps : (P : Mosfet1 → Type 0) (d : Mosfet1) (a : Outcome Evaluated) → ((e : Evaluated) → a ≡ done e → P (e .device)) → P d → P (deviceLeft d (evaluationAnswer a))
 unfolding deviceLeft
-evaluation-keeps P d (Evaluation.Done e) done p = done e refl
-evaluation-keeps P d (Evaluation.Refused n) done p = p
+evaluation-keeps P d (done e) kept p = kept e refl
+evaluation-keeps P d (refused n) kept p = p
 
-commit-keeps : (P : Mosfet1 → Type 0) (d : Mosfet1) (a : Commit) → ((e : Mosfet1) → a ≡ Commit.Done e → P e) → P d → P (deviceLeft d (commitAnswer a))
+commit-keeps : (P : Mosfet1 → Type 0) (d : Mosfet1) (a : Outcome Mosfet1) → ((e : Mosfet1) → a ≡ done e → P e) → P d → P (deviceLeft d (commitAnswer a))
 unfolding deviceLeft
-commit-keeps P d (Commit.Done e) done p = done e refl
-commit-keeps P d (Commit.Refused n) done p = p
+commit-keeps P d (done e) kept p = kept e refl
+commit-keeps P d (refused n) kept p = p
 
 -- every call keeps it, accepted or refused
 pub call-keeps : {P : Mosfet1 → Type 0} → Keeps P → (c : Call) (d : Mosfet1) → IsF64 c → P d → P (after c d)
 unfolding after answer deviceLeft
 call-keeps {P} keeps (geometry bytes offsets lengths values list) d f p =
     geometry-keeps P d (geometryListOf d bytes offsets lengths values list) (geometryOf d bytes offsets lengths values (length list))
-    (λ e n h. keeps .sized d bytes offsets lengths values (length list) n e f h p) p
+    (λ k h. keeps .sized d bytes offsets lengths values (length list) k f h p) p
 call-keeps {P} keeps (scaling t) d f p = setup-keeps P d (scalingOf d t) (λ e h. keeps .scaled d t e f h p) p
 call-keeps {P} keeps (binding drain gate source bulk first) d f p =
     setup-keeps P d (bindingOf d drain gate source bulk first) (λ e h. keeps .bound d drain gate source bulk first e h p) p

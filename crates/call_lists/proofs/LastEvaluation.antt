@@ -3,38 +3,33 @@ use Prim.Native.Nat.{ℕ}
 use mathlib.Core.Path.{_≡_, refl, sym, ap, _∙_, subst}
 use mathlib.Core.Bool.{Bool, true, false, cond, false≢true}
 use mathlib.Core.List.{List, [], _∷_}
-use lib.Dec.{eqb}
 use lib.Ieee.{Float}
 use lib.ListN.{length}
 use Rattle.temperature.specs.declared.Kelvin.{Kelvin}
+use Rattle.device.specs.Refusals.{Outcome, done, refused}
 use Rattle.device.specs.Stages.{before}
 use Rattle.device.specs.declared.Mosfet1.{Mosfet1}
 use Rattle.device.specs.declared.NodeId.{NodeId}
 use Rattle.device.specs.declared.OperatingPoint.{OperatingPoint}
 use Rattle.device.specs.declared.Stage.{Stage}
 use Rattle.device.specs.declared.Stage.the-variants as Stages
+use Rattle.entries.specs.Entries.{Keyed}
 use Rattle.geometry.specs.Geometry.{geometryOf, geometryListOf, geometryStage}
-use Rattle.geometry.specs.declared.GeometryAnswer.{GeometryAnswer}
-use Rattle.geometry.specs.declared.GeometryAnswer.the-variants as Geometry
 use Rattle.setup.specs.Scaling.{scalingOf, scaledStage}
 use Rattle.setup.specs.Binding.{bindingOf, outsideBinding}
-use Rattle.setup.specs.declared.SetupAnswer.{SetupAnswer}
-use Rattle.setup.specs.declared.SetupAnswer.the-variants as Setup
 use Rattle.bias.specs.Bias.{operatingPointOf}
 use Rattle.mosfet1.specs.Steps.{evaluatedPointOf, evaluatedFromOf, evaluatedOf, committedPointOf, committedOf}
 use Rattle.bias.specs.declared.Kept.{Kept}
 use Rattle.bias.specs.declared.Voltages.{Voltages}
 use Rattle.mosfet1.specs.declared.steps.Conditions.{Conditions}
 use Rattle.mosfet1.specs.declared.steps.Evaluated.{Evaluated}
-use Rattle.model.specs.Calls.{evalOf, evaluationOf, commitOf, commitAnswerOf}
-use Rattle.rows.specs.Rows.{voltagesOf, commitRowOf}
-use Rattle.model.specs.declared.calls.Evaluation.the-variants as Evaluation
-use Rattle.model.specs.declared.calls.Commit.the-variants as Commit
+use Rattle.model.specs.Calls.{evalOf, commitOf}
+use Rattle.rows.specs.Rows.{voltagesOf}
 use Rattle.accepted.proofs.Accepted.{card-accepted}
 use Rattle.call_lists.specs.Calls.{Call, geometry, scaling, binding, evaluation, loading, commit, noise, reactances, geometryAnswer, setupAnswer, evaluationAnswer, commitAnswer, answer, isDone, deviceLeft, accepted, after, run}
 use Rattle.call_lists.specs.F64.{Fresh}
 use Rattle.call_lists.specs.LastEvaluation.{EvaluationMade, evaluationOn, voltagesAt, answerAt, pointAt, chargesAt, evaluatedKept, committedKept, LastEvaluation, none, made, evaluatedLast, committedLast, noted, lastFrom, lastEvaluation, keeping, HoldsEvaluation, HoldsLast}
-use Rattle.call_lists.proofs.Outcomes.{geometry-done, scaling-done, binding-done, rowAt}
+use Rattle.call_lists.proofs.Outcomes.{geometry-done, scaling-done, binding-done, evaluation-done, commit-done}
 
 -- ---- stages
 
@@ -61,22 +56,22 @@ no-binding s e h = false≢true (sym h ∙ ap outsideBinding e)
 
 -- ---- one call
 
-geometry-holds : (last : LastEvaluation) (d : Mosfet1) (bytes offsets lengths : List ℕ) (values : List Float) (space : ℕ) (list : List ℕ) (a : GeometryAnswer) → geometryOf d bytes offsets lengths values space ≡ a → HoldsLast last d → HoldsLast last (deviceLeft d (geometryAnswer a list))
+geometry-holds : (last : LastEvaluation) (d : Mosfet1) (bytes offsets lengths : List ℕ) (values : List Float) (space : ℕ) (list : List ℕ) (a : Outcome Keyed) → geometryOf d bytes offsets lengths values space ≡ a → HoldsLast last d → HoldsLast last (deviceLeft d (geometryAnswer a list))
 unfolding deviceLeft
-geometry-holds none d bytes offsets lengths values space list (Geometry.Done e n) h l =
-    let r = geometry-done d bytes offsets lengths values space n e h in
+geometry-holds none d bytes offsets lengths values space list (done k) h l =
+    let r = geometry-done d bytes offsets lengths values space k h in
     ap (λ (z : Mosfet1). before (z .stage) Stages.Evaluated) (r .1) ∙ geometry-earlier (d .stage) (r .0 .1 .1 .1 .1 .1 .0)
-geometry-holds (made m kept) d bytes offsets lengths values space list (Geometry.Done e n) h l =
-    let r = geometry-done d bytes offsets lengths values space n e h in
+geometry-holds (made m kept) d bytes offsets lengths values space list (done k) h l =
+    let r = geometry-done d bytes offsets lengths values space k h in
     absurd (no-geometry (d .stage) (l .stage) (r .0 .1 .1 .1 .1 .1 .0))
-geometry-holds none d bytes offsets lengths values space list (Geometry.Refused n) h l = l
-geometry-holds (made m kept) d bytes offsets lengths values space list (Geometry.Refused n) h l = l
+geometry-holds none d bytes offsets lengths values space list (refused n) h l = l
+geometry-holds (made m kept) d bytes offsets lengths values space list (refused n) h l = l
 
-scaling-holds : (last : LastEvaluation) (d : Mosfet1) (t : Kelvin) (a : SetupAnswer) → scalingOf d t ≡ a → HoldsLast last d → HoldsLast last (deviceLeft d (setupAnswer a))
+scaling-holds : (last : LastEvaluation) (d : Mosfet1) (t : Kelvin) (a : Outcome Mosfet1) → scalingOf d t ≡ a → HoldsLast last d → HoldsLast last (deviceLeft d (setupAnswer a))
 unfolding deviceLeft
-scaling-holds none d t (Setup.Done e) h l =
+scaling-holds none d t (done e) h l =
     ap (λ (z : Mosfet1). before (z .stage) Stages.Evaluated) (scaling-done d t e h .1) ∙ scaling-earlier (d .stage) l
-scaling-holds (made m kept) d t (Setup.Done e) h l =
+scaling-holds (made m kept) d t (done e) h l =
     subst (HoldsEvaluation m kept) (sym (scaling-done d t e h .1)) (record {
       card = l .card;
       geometry = l .geometry;
@@ -86,17 +81,17 @@ scaling-holds (made m kept) d t (Setup.Done e) h l =
       disc = l .disc;
       stage = ap scaledStage (l .stage);
     })
-scaling-holds none d t (Setup.Refused n) h l = l
-scaling-holds (made m kept) d t (Setup.Refused n) h l = l
+scaling-holds none d t (refused n) h l = l
+scaling-holds (made m kept) d t (refused n) h l = l
 
-binding-holds : (last : LastEvaluation) (d : Mosfet1) (drain gate source bulk : NodeId) (first : ℕ) (a : SetupAnswer) → bindingOf d drain gate source bulk first ≡ a → HoldsLast last d → HoldsLast last (deviceLeft d (setupAnswer a))
+binding-holds : (last : LastEvaluation) (d : Mosfet1) (drain gate source bulk : NodeId) (first : ℕ) (a : Outcome Mosfet1) → bindingOf d drain gate source bulk first ≡ a → HoldsLast last d → HoldsLast last (deviceLeft d (setupAnswer a))
 unfolding deviceLeft
-binding-holds none d drain gate source bulk first (Setup.Done e) h l =
+binding-holds none d drain gate source bulk first (done e) h l =
     ap (λ (z : Mosfet1). before (z .stage) Stages.Evaluated) (binding-done d drain gate source bulk first e h .1)
-binding-holds (made m kept) d drain gate source bulk first (Setup.Done e) h l =
+binding-holds (made m kept) d drain gate source bulk first (done e) h l =
     absurd (no-binding (d .stage) (l .stage) (binding-done d drain gate source bulk first e h .0 .1 .0))
-binding-holds none d drain gate source bulk first (Setup.Refused n) h l = l
-binding-holds (made m kept) d drain gate source bulk first (Setup.Refused n) h l = l
+binding-holds none d drain gate source bulk first (refused n) h l = l
+binding-holds (made m kept) d drain gate source bulk first (refused n) h l = l
 
 evaluated : (d : Mosfet1) (x : List Float) (transient : Bool) (k : Conditions) → HoldsEvaluation (evaluationOn d x transient k) (evaluatedKept (evaluationOn d x transient k)) (evaluatedOf d (voltagesOf x (d .terminals)) transient k .device)
 unfolding evaluationOn voltagesAt answerAt pointAt chargesAt evaluatedKept keeping evaluatedOf evaluatedFromOf evaluatedPointOf operatingPointOf
@@ -107,10 +102,11 @@ evaluated-holds : (last : LastEvaluation) (d : Mosfet1) (x : List Float) (transi
 unfolding evaluatedLast
 evaluated-holds last d x transient k = evaluated d x transient k
 
-evaluation-holds : (last new : LastEvaluation) (d : Mosfet1) (result : Evaluated) (b : Bool) (row : ℕ) → HoldsLast new (result .device) → HoldsLast last d → HoldsLast (cond (isDone (evaluationAnswer (cond b (Evaluation.Done result) (Evaluation.Refused row)))) new last) (deviceLeft d (evaluationAnswer (cond b (Evaluation.Done result) (Evaluation.Refused row))))
+-- a call whose accepted answer leaves a device, and a refused one
+evaluation-holds : (last new : LastEvaluation) (d : Mosfet1) (a : Outcome Evaluated) → ((e : Evaluated) → a ≡ done e → HoldsLast new (e .device)) → HoldsLast last d → HoldsLast (cond (isDone (evaluationAnswer a)) new last) (deviceLeft d (evaluationAnswer a))
 unfolding isDone deviceLeft
-evaluation-holds last new d result true row m l = m
-evaluation-holds last new d result false row m l = l
+evaluation-holds last new d (done e) m l = m e refl
+evaluation-holds last new d (refused n) m l = l
 
 committed-holds : (last : LastEvaluation) (d : Mosfet1) (v : Voltages) → HoldsLast last d → HoldsLast (committedLast last d v) (committedOf d v)
 unfolding committedLast committedKept keeping committedOf committedPointOf
@@ -126,23 +122,25 @@ committed-holds (made m kept) d v l =
       stage = l .stage;
     }
 
-commit-holds : (last new : LastEvaluation) (d result : Mosfet1) (b : Bool) (row : ℕ) → HoldsLast new result → HoldsLast last d → HoldsLast (cond (isDone (commitAnswer (cond b (Commit.Done result) (Commit.Refused row)))) new last) (deviceLeft d (commitAnswer (cond b (Commit.Done result) (Commit.Refused row))))
+commit-holds : (last new : LastEvaluation) (d : Mosfet1) (a : Outcome Mosfet1) → ((e : Mosfet1) → a ≡ done e → HoldsLast new e) → HoldsLast last d → HoldsLast (cond (isDone (commitAnswer a)) new last) (deviceLeft d (commitAnswer a))
 unfolding isDone deviceLeft
-commit-holds last new d result true row m l = m
-commit-holds last new d result false row m l = l
+commit-holds last new d (done e) m l = m e refl
+commit-holds last new d (refused n) m l = l
 
 noted-holds : (c : Call) (last : LastEvaluation) (d : Mosfet1) → HoldsLast last d → HoldsLast (noted last c d) (after c d)
-unfolding noted accepted after answer deviceLeft evalOf evaluationOf commitOf commitAnswerOf
+unfolding noted accepted after answer deviceLeft
 noted-holds (geometry bytes offsets lengths values list) last d l =
     geometry-holds last d bytes offsets lengths values (length list) (geometryListOf d bytes offsets lengths values list) _ refl l
 noted-holds (scaling t) last d l = scaling-holds last d t _ refl l
 noted-holds (binding drain gate source bulk first) last d l = binding-holds last d drain gate source bulk first _ refl l
 noted-holds (evaluation x transient k) last d l =
-    evaluation-holds last _ d _ (eqb (rowAt d x k) 0) (rowAt d x k) (evaluated-holds last d x transient k) l
+    let new = evaluatedLast last (evaluationOn d x transient k) in
+    evaluation-holds last new d (evalOf d x transient k)
+    (λ e h. subst (λ (z : Evaluated). HoldsLast new (z .device)) (sym (evaluation-done d x transient k e h)) (evaluated-holds last d x transient k)) l
 noted-holds (loading kind P rhs values) last d l = l
 noted-holds (commit x) last d l =
-    commit-holds last _ d _ (eqb (commitRowOf (d .stage) (d .terminals) x) 0) (commitRowOf (d .stage) (d .terminals) x)
-    (committed-holds last d (voltagesOf x (d .terminals)) l) l
+    let new = committedLast last d (voltagesOf x (d .terminals)) in
+    commit-holds last new d (commitOf d x) (λ e h. subst (HoldsLast new) (sym (commit-done d x e h)) (committed-holds last d (voltagesOf x (d .terminals)) l)) l
 noted-holds (noise t freq) last d l = l
 noted-holds reactances last d l = l
 
@@ -156,7 +154,7 @@ holds-from (c ∷ calls) last d l = holds-from calls (noted last c d) (after c d
 fresh-holds : {d : Mosfet1} → Fresh d → HoldsLast none d
 fresh-holds {d} f =
     ap (λ (e : Mosfet1). before (e .stage) Stages.Evaluated)
-    (card-accepted (f .isPmos) (f .bytes) (f .offsets) (f .lengths) (f .values) (f .space) (f .count) d (f .returned) .0)
+    (card-accepted (f .isPmos) (f .bytes) (f .offsets) (f .lengths) (f .values) (f .space) _ (f .returned) .0)
 
 -- After every list of calls on a fresh device: what its last accepted evaluation left, or a stage before Evaluated where there is none.
 pub device-holds-the-last-evaluation : (calls : List Call) (d : Mosfet1) → Fresh d → HoldsLast (lastEvaluation calls d) (run calls d)

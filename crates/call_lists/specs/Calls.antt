@@ -1,35 +1,25 @@
 -- Calls on a device as values, what each answers, and the device that a list of them leaves.
 use Prim.Native.Nat.{ℕ}
-use mathlib.Core.Bool.{Bool, true, false}
+use mathlib.Core.Bool.{Bool}
 use mathlib.Core.List.{List, [], _∷_}
 use lib.Ieee.{Float}
 use lib.ListN.{length}
 use Rattle.temperature.specs.declared.Kelvin.{Kelvin}
+use Rattle.device.specs.Refusals.{Outcome, isAccepted, ifAccepted, valuesOr}
 use Rattle.device.specs.declared.Mosfet1.{Mosfet1}
 use Rattle.device.specs.declared.NodeId.{NodeId}
+use Rattle.entries.specs.Entries.{Keyed}
 use Rattle.geometry.specs.Geometry.{geometryOf, geometryListOf}
-use Rattle.geometry.specs.declared.GeometryAnswer.{GeometryAnswer}
-use Rattle.geometry.specs.declared.GeometryAnswer.the-variants as Geometry
 use Rattle.setup.specs.Scaling.{scalingOf}
 use Rattle.setup.specs.Binding.{bindingOf}
-use Rattle.setup.specs.declared.SetupAnswer.{SetupAnswer}
-use Rattle.setup.specs.declared.SetupAnswer.the-variants as Setup
 use Rattle.mosfet1.specs.declared.steps.Conditions.{Conditions}
+use Rattle.mosfet1.specs.declared.steps.Evaluated.{Evaluated}
 use Rattle.model.specs.Calls.{evalOf, commitOf}
-use Rattle.model.specs.SmallSignal.{noiseOf, reactancesOf}
-use Rattle.model.specs.declared.calls.Evaluation.{Evaluation}
-use Rattle.model.specs.declared.calls.Evaluation.the-variants as Evaluation
-use Rattle.model.specs.declared.calls.Commit.{Commit}
-use Rattle.model.specs.declared.calls.Commit.the-variants as Commit
-use Rattle.model.specs.declared.small_signal.Noise.{Noise}
-use Rattle.model.specs.declared.small_signal.Noise.the-variants as Noise
-use Rattle.model.specs.declared.small_signal.Reactances.{Reactances}
-use Rattle.model.specs.declared.small_signal.Reactances.the-variants as Reactances
+use Rattle.model.specs.SmallSignal.{NoiseSource, noiseOf, reactancesOf}
+use Rattle.model.specs.declared.small_signal.FiveReactances.{FiveReactances}
 use Rattle.assembly.specs.Assembly.{Pattern, addCells, addSources}
-use Rattle.loading.specs.Loading.{loadAnswer, ifDone, jacobianContributions, rhsContributions}
+use Rattle.loading.specs.Loading.{loadOf, ifDone, jacobianContributions, rhsContributions}
 use Rattle.loading.specs.declared.LoadKind.{LoadKind}
-use Rattle.loading.specs.declared.LoadAnswer.{LoadAnswer}
-use Rattle.loading.specs.declared.LoadAnswer.the-variants as Load
 
 -- A call with its arguments; a lent slice is the list that it holds at entry. `list` is the lent list of unknown keys' places.
 pub data Call : Type 0 where
@@ -44,13 +34,13 @@ pub data Call : Type 0 where
 
 -- What a call answers, with what the slices that it may write hold at exit.
 pub data Answer : Type 0 where
-  geometryAnswer : GeometryAnswer → (list : List ℕ) → Answer
-  setupAnswer : SetupAnswer → Answer
-  evaluationAnswer : Evaluation → Answer
-  loadingAnswer : LoadAnswer → (rhs values : List Float) → Answer
-  commitAnswer : Commit → Answer
-  noiseAnswer : Noise → Answer
-  reactancesAnswer : Reactances → Answer
+  geometryAnswer : Outcome Keyed → (list : List ℕ) → Answer
+  setupAnswer : Outcome Mosfet1 → Answer
+  evaluationAnswer : Outcome Evaluated → Answer
+  loadingAnswer : Outcome Unit → (rhs values : List Float) → Answer
+  commitAnswer : Outcome Mosfet1 → Answer
+  noiseAnswer : Outcome (List NoiseSource) → Answer
+  reactancesAnswer : Outcome FiveReactances → Answer
 
 -- the definitions that the calls' contracts cite
 unfoldable pub answer : Call → Mosfet1 → Answer
@@ -60,7 +50,7 @@ answer (scaling t) d = setupAnswer (scalingOf d t)
 answer (binding drain gate source bulk first) d = setupAnswer (bindingOf d drain gate source bulk first)
 answer (evaluation x transient k) d = evaluationAnswer (evalOf d x transient k)
 answer (loading kind P rhs values) d =
-    let r = loadAnswer d kind P rhs values in
+    let r = loadOf d kind P rhs values in
     loadingAnswer r (ifDone r (addSources (rhsContributions d kind) rhs) rhs) (ifDone r (addCells P (jacobianContributions d kind) values) values)
 answer (commit x) d = commitAnswer (commitOf d x)
 answer (noise t freq) d = noiseAnswer (noiseOf d t freq)
@@ -68,33 +58,21 @@ answer reactances d = reactancesAnswer (reactancesOf d)
 
 -- whether an answer is no refusal
 unfoldable pub isDone : Answer → Bool
-isDone (geometryAnswer (Geometry.Done e n) list) = true
-isDone (geometryAnswer (Geometry.Refused n) list) = false
-isDone (setupAnswer (Setup.Done e)) = true
-isDone (setupAnswer (Setup.Refused n)) = false
-isDone (evaluationAnswer (Evaluation.Done e)) = true
-isDone (evaluationAnswer (Evaluation.Refused n)) = false
-isDone (loadingAnswer Load.Done rhs values) = true
-isDone (loadingAnswer (Load.Refused n) rhs values) = false
-isDone (commitAnswer (Commit.Done e)) = true
-isDone (commitAnswer (Commit.Refused n)) = false
-isDone (noiseAnswer Noise.Quiet) = true
-isDone (noiseAnswer (Noise.Source a b s)) = true
-isDone (noiseAnswer (Noise.Refused n)) = false
-isDone (reactancesAnswer (Reactances.Found five)) = true
-isDone (reactancesAnswer (Reactances.Refused n)) = false
+isDone (geometryAnswer r list) = isAccepted r
+isDone (setupAnswer r) = isAccepted r
+isDone (evaluationAnswer r) = isAccepted r
+isDone (loadingAnswer r rhs values) = isAccepted r
+isDone (commitAnswer r) = isAccepted r
+isDone (noiseAnswer r) = isAccepted r
+isDone (reactancesAnswer r) = isAccepted r
 
 -- the device that an answer leaves: a refusal leaves it, and so do loading, noise and reactances always
 unfoldable pub deviceLeft : Mosfet1 → Answer → Mosfet1
-deviceLeft d (geometryAnswer (Geometry.Done e n) list) = e
-deviceLeft d (geometryAnswer (Geometry.Refused n) list) = d
-deviceLeft d (setupAnswer (Setup.Done e)) = e
-deviceLeft d (setupAnswer (Setup.Refused n)) = d
-deviceLeft d (evaluationAnswer (Evaluation.Done e)) = e .device
-deviceLeft d (evaluationAnswer (Evaluation.Refused n)) = d
+deviceLeft d (geometryAnswer r list) = ifAccepted (λ (k : Keyed). k .device) d r
+deviceLeft d (setupAnswer r) = valuesOr d r
+deviceLeft d (evaluationAnswer r) = ifAccepted (λ (e : Evaluated). e .device) d r
 deviceLeft d (loadingAnswer r rhs values) = d
-deviceLeft d (commitAnswer (Commit.Done e)) = e
-deviceLeft d (commitAnswer (Commit.Refused n)) = d
+deviceLeft d (commitAnswer r) = valuesOr d r
 deviceLeft d (noiseAnswer r) = d
 deviceLeft d (reactancesAnswer r) = d
 

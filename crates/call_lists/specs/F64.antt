@@ -9,7 +9,7 @@ use Rattle.device.specs.declared.Discretisation.{Discretisation}
 use Rattle.device.specs.declared.Discretisation.the-variants.{None, Euler, Trapezoid, Gear}
 use Rattle.device.specs.declared.Mosfet1.{Mosfet1}
 use Rattle.card.specs.Card.{cardOf}
-use Rattle.card.specs.declared.CardAnswer.the-variants.{Done}
+use Rattle.device.specs.Refusals.{done}
 use Rattle.loading.specs.declared.LoadKind.{LoadKind}
 use Rattle.loading.specs.declared.LoadKind.the-variants.{DirectCurrent, Transient}
 pub use Rattle.parameter_sizes.specs.ParameterSizes.{F64, Every, none, next}
@@ -48,4 +48,4 @@ pub record Fresh (d : Mosfet1) : Type 0 where
   pub space : ℕ
   pub count : ℕ
   pub f64 : Every F64 values
-  pub returned : cardOf isPmos bytes offsets lengths values space ≡ Done d count
+  pub returned : cardOf isPmos bytes offsets lengths values space ≡ done (record { device = d; unknown = count })

@@ -120,7 +120,7 @@ pub record StandsIn (calls : List Call) (d : Mosfet1) (e : EvaluationMade) : Typ
   pub rest : List Call
   pub stands : calls ≡ prefix ++ (evaluation (e .x) (e .transient) (e .conditions) ∷ rest)
   pub device : e .device ≡ run prefix d
-  pub row : evalRowOf (e .device .stage) (e .device .terminals) (e .x) (e .conditions .temperature .0) (e .conditions .gmin) (e .conditions .method) ≡ 0
+  pub row : evalRowOf (e .device .stage) (e .device .terminals) (e .x) (e .conditions .temperature) (e .conditions .gmin) (e .conditions .method) ≡ 0
 
 -- the calls that need an accepted evaluation are refused on d, whatever their arguments
 pub record RefusedBeforeEvaluation (d : Mosfet1) : Type 0 where

@@ -32,11 +32,11 @@ use Rattle.mosfet1.specs.Steps.{evaluatedChargesOf}
 use Rattle.stamps.specs.Stamps.{branchOf, junctionBranchOf, chargeBranchesOf}
 use Rattle.stamps.specs.declared.ChargeBranch.{ChargeBranch}
 use Rattle.assembly.specs.Assembly.{Pattern}
-use Rattle.loading.specs.Loading.{loadAnswer, nodesOutside, isEvaluated, alphaLimit, alphaInside, alphaOutside}
+use Rattle.loading.specs.Loading.{loadRows, loadOf, alphaLimit, alphaInside, alphaOutside}
 use Rattle.loading.specs.declared.LoadKind.{LoadKind}
 use Rattle.loading.specs.declared.LoadKind.the-variants.{DirectCurrent, Transient}
-use Rattle.loading.specs.declared.LoadAnswer.{LoadAnswer}
-use Rattle.loading.specs.declared.LoadAnswer.the-variants.{Done, Refused}
+use Rattle.device.specs.Refusals.{done}
+use Rattle.device.proofs.Rows.{passed}
 use Rattle.evaluation_sizes.specs.Arguments as arguments
 use Rattle.evaluation_sizes.specs.EvaluationSizes.{ChargesSizes, EarlierSize, absent, value, HistorySizes, HistoriesSizes, StateSizes}
 use Rattle.evaluation_sizes.proofs.Evaluated.{difference-range}
@@ -48,18 +48,9 @@ use Rattle.charge_current.proofs.Returns.{charge-returns}
 use Rattle.currents.specs.Branches.{Branch, gs, gd, gb, bs, bd, posOf, negOf, voltageOf, capacitanceOf, chargeOf, pastOf, historyLoaded, loadedBranch}
 
 -- ---- row 11 let alpha pass
-not-done : (n : ℕ) → Refused n ≡ Done → ⊥
-not-done n e = let z : _≡_ {A = ℕ} 0 1 = cc in omega arith
-
-eleven-passed : (a b c : Bool) (rest : LoadAnswer) → cond a (Refused 8) (cond b (Refused 10) (cond c (Refused 11) rest)) ≡ Done → c ≡ false
-eleven-passed true b c rest e = absurd (not-done 8 e)
-eleven-passed false true c rest e = absurd (not-done 10 e)
-eleven-passed false false true rest e = absurd (not-done 11 e)
-eleven-passed false false false rest e = refl
-
-pub alpha-passed : (d : Mosfet1) (k : LoadKind) (P : Pattern) (rhs values : List Float) → loadAnswer d k P rhs values ≡ Done → alphaOutside (d .disc) k ≡ false
-unfolding loadAnswer
-alpha-passed d k P rhs values e = eleven-passed (nodesOutside (d .stage) (d .terminals) (length rhs) (length (P .offsets))) (not (isEvaluated (d .stage))) (alphaOutside (d .disc) k) _ e
+pub alpha-passed : (d : Mosfet1) (k : LoadKind) (P : Pattern) (rhs values : List Float) → loadOf d k P rhs values ≡ done tt → alphaOutside (d .disc) k ≡ false
+unfolding loadOf
+alpha-passed d k P rhs values e = passed (loadRows d k P rhs values) e .0 .1 .1 .0
 
 both : (a b : Bool) → not (a && b) ≡ false → T a × T b
 both true true e = (tt, tt)

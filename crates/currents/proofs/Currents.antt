@@ -10,11 +10,10 @@ use Rattle.device.specs.declared.Histories.{Histories}
 use Rattle.device.specs.declared.Mosfet1.{Mosfet1}
 use Rattle.bias.specs.declared.Kept.{Kept}
 use Rattle.assembly.specs.Assembly.{Pattern}
-use Rattle.loading.specs.Loading.{Loaded, loadAnswer, branchesOf, alphaOutside}
+use Rattle.loading.specs.Loading.{Loaded, loadOf, branchesOf, alphaOutside}
 use Rattle.loading.specs.declared.LoadKind.{LoadKind}
 use Rattle.loading.specs.declared.LoadKind.the-variants.{DirectCurrent, Transient}
-use Rattle.loading.specs.declared.LoadAnswer.{LoadAnswer}
-use Rattle.loading.specs.declared.LoadAnswer.the-variants.{Done}
+use Rattle.device.specs.Refusals.{done}
 use Rattle.call_lists.specs.Calls.{Call, run, loading, answer, isDone, accepted}
 use Rattle.call_lists.specs.F64.{Every, IsF64, Fresh}
 use Rattle.call_lists.specs.LastEvaluation.{EvaluationMade, made, lastEvaluation, voltagesAt, chargesAt, HoldsEvaluation}
@@ -109,22 +108,22 @@ module _ (d : Mosfet1) (F : Fresh d) (calls : List Call) (fs : Every IsF64 calls
   branches e kept last DirectCurrent row premises = tt
   branches e kept last (Transient alpha) row premises = λ b. branch e kept last alpha row premises b
 
-  done-accepted : (kind : LoadKind) (P : Pattern) (rhs values : List Float) → loadAnswer (run calls d) kind P rhs values ≡ Done → accepted (loading kind P rhs values) (run calls d) ≡ true
+  done-accepted : (kind : LoadKind) (P : Pattern) (rhs values : List Float) → loadOf (run calls d) kind P rhs values ≡ done tt → accepted (loading kind P rhs values) (run calls d) ≡ true
   unfolding accepted answer isDone
   done-accepted kind P rhs values h = rw (h) refl
 
 -- Any list of calls on a fresh device, then an accepted load: the currents come back, the contributions cancel, no other cell changes.
 pub currents-return : EveryLoadHolds
 currents-return d F calls fs kind P rhs values rhs' values' loaded =
-    let done = sym (loaded .answer) in
+    let answered = sym (loaded .answer) in
     record {
       places = loaded-places (run calls d) kind;
-      evaluated = load-after-an-evaluation calls d kind P rhs values F (done-accepted d F calls fs kind P rhs values done);
+      evaluated = load-after-an-evaluation calls d kind P rhs values F (done-accepted d F calls fs kind P rhs values answered);
       returns = λ e kept last premises. record {
         channel = channel d F calls fs e kept last kind premises;
         source-junction = source-junction d F calls fs e kept last kind premises;
         drain-junction = drain-junction d F calls fs e kept last kind premises;
-        branches = branches d F calls fs e kept last kind (alpha-passed (run calls d) kind P rhs values done) premises;
+        branches = branches d F calls fs e kept last kind (alpha-passed (run calls d) kind P rhs values answered) premises;
       };
-      cancels = every-load-cancels (run calls d) kind P rhs values Done rhs' values' loaded;
+      cancels = every-load-cancels (run calls d) kind P rhs values (done tt) rhs' values' loaded;
     }

@@ -13,13 +13,14 @@ use Rattle.assembly.specs.Assembly.{Pattern}
 use Rattle.loading.specs.Loading.{Loaded, branchesOf}
 use Rattle.loading.specs.declared.LoadKind.{LoadKind}
 use Rattle.loading.specs.declared.LoadKind.the-variants.{DirectCurrent, Transient}
-use Rattle.loading.specs.declared.LoadAnswer.the-variants.{Done}
+use Rattle.device.specs.Refusals.{done}
 use Rattle.call_lists.specs.Calls.{Call, run}
 use Rattle.call_lists.specs.F64.{Every, IsF64, Fresh}
 use Rattle.call_lists.specs.LastEvaluation.{EvaluationMade, made, lastEvaluation, voltagesAt, answerAt, chargesAt}
 use Rattle.call_lists.specs.Recount.{recount}
 use Rattle.column_sums.specs.ColumnSums.{LoadCancels}
 use Rattle.channel_current.specs.ChannelCurrent.{ChannelInputs, ChannelReturns}
+use Rattle.temperature.specs.declared.Kelvin.{Kelvin}
 use Rattle.junction_current.specs.JunctionCurrent.{WithinThermalVoltages, JunctionReturns}
 use Rattle.charge_current.specs.ChargeCurrent.{RecordedSize, HoldsBefore, OnlyZeros, ChargeReturns, exactTerms}
 use Rattle.currents.specs.Loaded.{JunctionStamp, loadedChannel, loadedSourceJunction, loadedDrainJunction}
@@ -49,8 +50,8 @@ channelAt e =
 unfoldable pub polarityAt : EvaluationMade → Float
 polarityAt e = e .device .card .polarity
 
-unfoldable pub temperatureAt : EvaluationMade → Float
-temperatureAt e = e .conditions .temperature .0
+unfoldable pub temperatureAt : EvaluationMade → Kelvin
+temperatureAt e = e .conditions .temperature
 
 -- a junction's node difference, from the bulk to the inner source or drain
 unfoldable pub sourceVoltage : EvaluationMade → Float
@@ -121,5 +122,5 @@ pub record LoadHolds (calls : List Call) (d : Mosfet1) (kind : LoadKind) (P : Pa
 abbrev pub EveryLoadHolds : Type 0
 EveryLoadHolds =
     (d : Mosfet1) → Fresh d → (calls : List Call) → Every IsF64 calls
-    → (kind : LoadKind) (P : Pattern) (rhs values rhs' values' : List Float) → Loaded (run calls d) kind P rhs values Done rhs' values'
+    → (kind : LoadKind) (P : Pattern) (rhs values rhs' values' : List Float) → Loaded (run calls d) kind P rhs values (done tt) rhs' values'
     → LoadHolds calls d kind P rhs values rhs' values'

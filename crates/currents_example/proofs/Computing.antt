@@ -18,8 +18,10 @@ use Rattle.capacitance.specs.Depletion.{cjBelowOf, cjAboveOf, cjDeplMOf, qBelow
 use Rattle.charges.specs.Charges.{gradingOf, gateSharesOf, chargesOf}
 use Rattle.reactive.specs.Charge.{eulerOf, trapezoidOf, gearAtOf, gearOf, gearOrEulerOf, chargeCurrentOf, hasStepOf, recordedOf, advanceOf}
 use Rattle.mosfet1.specs.Steps.{evaluatedAnswerOf, evaluatedPointOf, evaluatedChargesOf, evaluatedFromOf, evaluatedOf, committedHistoriesOf, committedPointOf, committedOf}
-use Rattle.rows.specs.Rows.{nodeVoltageOf, voltagesOf, outsideOf, row6Of, beyondOf, row8Of, row9Of, unboundOf, unevaluatedOf, badStepOf, row11Of, evalRowOf, commitRowOf}
-use Rattle.model.specs.Calls.{evaluationOf, evalOf, commitAnswerOf, commitOf}
+use Rattle.device.specs.Nodes.{anyNodeBeyond}
+use Rattle.device.specs.Stages.{unbound, unevaluated}
+use Rattle.rows.specs.Rows.{nodeVoltageOf, voltagesOf, outsideOf, row6Of, row9Of, badStepOf, row11Of, nodesOutside, voltagesOutside, evalRowOf, commitRowOf}
+use Rattle.model.specs.Calls.{evalOf, commitOf}
 use Rattle.keys.specs.Names.{cardNames, geometryNames, namesOf, lowerOf, spells, named, meaningOf}
 use Rattle.key_pairs.specs.Pairs.{pairsAstray, badPairs}
 use Rattle.entries.specs.Entries.{entriesOf, beyondAscii, anyBeyondAscii, unknownFrom, unknownCount, anyOutside, anyTnomOutside}
@@ -46,5 +48,5 @@ model = true
 
 -- the rows of refusals at an evaluation and a commit
 unfoldable pub rows : Bool
-unfolding nodeVoltageOf voltagesOf outsideOf row6Of beyondOf row8Of row9Of unboundOf unevaluatedOf badStepOf row11Of evalRowOf commitRowOf evaluationOf evalOf commitAnswerOf commitOf
+unfolding anyNodeBeyond unbound unevaluated nodeVoltageOf voltagesOf outsideOf row6Of row9Of badStepOf row11Of nodesOutside voltagesOutside evalRowOf commitRowOf evalOf commitOf
 rows = true

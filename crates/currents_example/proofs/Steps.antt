@@ -3,7 +3,7 @@ use mathlib.Core.Path.{_≡_, refl}
 use mathlib.Core.Bool.{true, false}
 use Rattle.exact.specs.Float64.{+1}
 use Rattle.card.specs.Card.{cardOf, parametersOf}
-use Rattle.card.specs.declared.CardAnswer.the-variants.{Done}
+use Rattle.device.specs.Refusals.{done}
 use Rattle.device.specs.declared.Stage.the-variants as Stage
 use Rattle.device.specs.declared.Mosfet1.{Mosfet1}
 use Rattle.geometry.specs.Geometry.{geometryOf, sizesOf}
@@ -14,7 +14,7 @@ use Rattle.currents_example.specs.Example.{cardBytes, cardOffsets, cardL
 use Rattle.currents_example.specs.Trace.{fresh, sized, bound, evaluated1, committed1, evaluated2, committed2, evaluated3}
 use Rattle.currents_example.proofs.Computing.{floats, keys, temperatures, model, rows}
 
-pub card-answered : cardOf false cardBytes cardOffsets cardLengths cardValues 0 ≡ Done fresh 0
+pub card-answered : cardOf false cardBytes cardOffsets cardLengths cardValues 0 ≡ done (record { device = fresh; unknown = 0 })
 unfolding cardOf parametersOf keys floats
 card-answered = refl
 
@@ -27,7 +27,7 @@ unfolding after answer deviceLeft geometryOf sizesOf keys floats
 geometry-leaves = record { is = refl }
 
 pub binding-leaves : Leaves bindingCall (sized Stage.Scaled) bound
-unfolding after answer deviceLeft bindingOf floats
+unfolding after answer deviceLeft bindingOf rows floats
 binding-leaves = record { is = refl }
 
 pub scaling-leaves : Leaves (scaling kelvin) (sized Stage.Geometry) (sized Stage.Scaled)

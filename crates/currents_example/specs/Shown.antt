@@ -7,7 +7,7 @@ use Rattle.bias.specs.declared.Kept.{Kept}
 use Rattle.assembly.specs.Assembly.{Pattern}
 use Rattle.loading.specs.Loading.{Loaded}
 use Rattle.loading.specs.declared.LoadKind.{LoadKind}
-use Rattle.loading.specs.declared.LoadAnswer.the-variants.{Done}
+use Rattle.device.specs.Refusals.{done}
 use Rattle.call_lists.specs.Calls.{Call, run}
 use Rattle.call_lists.specs.F64.{Every, IsF64, Fresh}
 use Rattle.call_lists.specs.LastEvaluation.{EvaluationMade, made, lastEvaluation}
@@ -19,4 +19,4 @@ pub record MeetsAll (calls : List Call) (d : Mosfet1) (e : EvaluationMade) (kept
   pub f64 : Every IsF64 calls
   pub evaluated : lastEvaluation calls d ≡ made e kept
   pub premises : Premises calls d e kind
-  pub loaded : Loaded (run calls d) kind P rhs values Done rhs' values'
+  pub loaded : Loaded (run calls d) kind P rhs values (done tt) rhs' values'

@@ -28,11 +28,15 @@ abbrev pub number : {A : Type 0} → Outcome A → ℕ
 number (done a) = 0
 number (refused n) = n
 
-abbrev pub isDone : {A : Type 0} → Outcome A → Bool
-isDone (done a) = true
-isDone (refused n) = false
+abbrev pub isAccepted : {A : Type 0} → Outcome A → Bool
+isAccepted (done a) = true
+isAccepted (refused n) = false
 
--- an accepted call's values; what was there before after a refusal
+-- what follows from an accepted call's values; after a refusal what was there before
+abbrev pub ifAccepted : {A B : Type 0} → (A → B) → B → Outcome A → B
+ifAccepted f before (done a) = f a
+ifAccepted f before (refused n) = before
+
 abbrev pub valuesOr : {A : Type 0} → A → Outcome A → A
 valuesOr before (done a) = a
 valuesOr before (refused n) = before

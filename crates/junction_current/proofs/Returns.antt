@@ -25,6 +25,7 @@ use Rattle.exact.proofs.RelativeErrors.{rel-scale, rel-weaken}
 use Rattle.exact.proofs.Computing.{computing}
 use Rattle.series.specs.Series.{E, Enough}
 use Rattle.elementary.specs.Functions.{expOf}
+use Rattle.temperature.specs.declared.Kelvin.{Kelvin}
 use Rattle.junction.specs.Junction.{thermalVoltageOf, shockleyOf, bulkJunctionOf, junctionOffsetOf}
 use Rattle.junction.specs.declared.Junction.{Junction}
 use Rattle.junction_current.specs.JunctionCurrent.{junctionVoltage, junctionAt, offsetAt, returnedCurrent, thermalQuotient, exactCurrent, currentScale, greatestQuotient, JunctionSizes, WithinThermalVoltages, JunctionReturns}
@@ -101,9 +102,9 @@ quotient-room : greatestQuotient ≤q nat 500
 unfolding computing
 quotient-room = lit-≤ tt
 
-module _ {isat pol v0 t gmin : Float} (S : JunctionSizes isat pol v0 t gmin) (near : WithinThermalVoltages pol v0 t) where
+module _ {isat pol v0 : Float} {t : Kelvin} {gmin : Float} (S : JunctionSizes isat pol v0 t gmin) (near : WithinThermalVoltages pol v0 t) where
   vt-range : Range (thermalVoltageOf t) (17 // 1024) (45 // 1024)
-  vt-range = thermal-voltage-range (S .t-range)
+  vt-range = thermal-voltage-range t (S .t-range)
 
   near-500 : absq (value (junctionVoltage pol v0)) ≤q nat 500 *q value (thermalVoltageOf t)
   unfolding computing

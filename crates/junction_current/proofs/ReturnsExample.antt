@@ -15,6 +15,7 @@ use Rattle.exact.proofs.Constants.{value-+1, constant-fits}
 use Rattle.exact.proofs.Representable.{one-mul-exact}
 use Rattle.exact.proofs.Sizes.{constant-atMost}
 use Rattle.exact.proofs.Computing.{computing}
+use Rattle.temperature.specs.declared.Kelvin.{Kelvin}
 use Rattle.junction.specs.Junction.{thermalVoltageOf}
 use Rattle.junction_current.specs.JunctionCurrent.{junctionAt, offsetAt, JunctionSizes, WithinThermalVoltages, JunctionReturns}
 use Rattle.junction_current.proofs.ThermalVoltage.{thermal-voltage-range}
@@ -24,13 +25,13 @@ use Rattle.junction_current.proofs.Returns.{junction-returns}
 abbrev isat : Float
 isat = ofBits binary64 0x3d06_849b_86a1_2b9b
 
-abbrev t : Float
-t = ofBits binary64 0x4072_c000_0000_0000
+abbrev t : Kelvin
+t = record { 0 = ofBits binary64 0x4072_c000_0000_0000 }
 
 abbrev gmin : Float
 gmin = ofBits binary64 0x3d71_9799_812d_ea11
 
-room : Range t (nat 200) (nat 500)
+room : Range (t .0) (nat 200) (nat 500)
 unfolding computing
 room = record { fin = tt; above = lit-≤ tt; below = lit-≤ tt }
 
@@ -51,7 +52,7 @@ unfolding computing
 within = record {
   size =
       ≤-trans (abs-mono-≈ (one-mul-exact binary64 +1 +1 tt (constant-fits 0x3ff0_0000_0000_0000) tt value-+1 .1))
-      (≤-trans (lit-≤ {y = nat 1} tt) (linq (value (thermalVoltageOf t) ∷ []) ((17 ÷ 1024 ⊑ qv 0 by 500) ∷ []) 0 (## 1) (## 500 ⊠ qv 0) tt (thermal-voltage-range room .above)));
+      (≤-trans (lit-≤ {y = nat 1} tt) (linq (value (thermalVoltageOf t) ∷ []) ((17 ÷ 1024 ⊑ qv 0 by 500) ∷ []) 0 (## 1) (## 500 ⊠ qv 0) tt (thermal-voltage-range t room .above)));
 }
 
 example : JunctionReturns (junctionAt isat +1 +1 t gmin .g) (offsetAt isat +1 +1 t gmin) isat +1 +1 t gmin

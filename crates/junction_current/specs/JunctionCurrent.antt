@@ -11,6 +11,7 @@ use Rattle.exact.specs.Fraction.{ℚ, _//_, nat, _+q_, _-q_, _*q_, _/q_, absq, 
 use Rattle.exact.specs.FloatValue.{value}
 use Rattle.exact.specs.Float64.{_⊗_, +1}
 use Rattle.exact.specs.Size.{AtMost, NonNegative, Range}
+use Rattle.temperature.specs.declared.Kelvin.{Kelvin}
 use Rattle.series.specs.Series.{E, Enough}
 use Rattle.junction.specs.Junction.{thermalVoltageOf, bulkJunctionOf, junctionOffsetOf}
 use Rattle.junction.specs.declared.Junction.{Junction}
@@ -21,11 +22,11 @@ abbrev pub junctionVoltage : (pol v0 : Float) → Float
 junctionVoltage pol v0 = pol ⊗ v0
 
 -- the current i and the conductance g, by the Level-1 definition
-abbrev pub junctionAt : (isat pol v0 t gmin : Float) → Junction
+abbrev pub junctionAt : (isat pol v0 : Float) (t : Kelvin) (gmin : Float) → Junction
 junctionAt isat pol v0 t gmin = bulkJunctionOf isat (junctionVoltage pol v0) (thermalVoltageOf t) gmin
 
 -- the offset (ibs_eq, ibd_eq), turned back by the polarity
-abbrev pub offsetAt : (isat pol v0 t gmin : Float) → Float
+abbrev pub offsetAt : (isat pol v0 : Float) (t : Kelvin) (gmin : Float) → Float
 offsetAt isat pol v0 t gmin = junctionOffsetOf pol (junctionAt isat pol v0 t gmin .i) (junctionAt isat pol v0 t gmin .g) (junctionVoltage pol v0)
 
 -- "conductance times v plus offset"; "polarity multiplies jeq and the offsets"
@@ -34,7 +35,7 @@ returnedCurrent g offset pol v0 = value g *q value (junctionVoltage pol v0) +q v
 
 -- ---- what it is measured against, with e for E
 -- "E (below) is at the exact quotient of v by the rounded thermal voltage"
-abbrev pub thermalQuotient : (pol v0 t : Float) → ℚ
+abbrev pub thermalQuotient : (pol v0 : Float) (t : Kelvin) → ℚ
 thermalQuotient pol v0 t = value (junctionVoltage pol v0) /q value (thermalVoltageOf t)
 
 -- "against isat·(E − 1) + gmin·v"
@@ -57,23 +58,23 @@ allowedError scale = relativeError *q scale +q absoluteError
 
 -- ---- premises
 -- bounds that hold at every accepted evaluation
-pub record JunctionSizes (isat pol v0 t gmin : Float) : Type 0 where
+pub record JunctionSizes (isat pol v0 : Float) (t : Kelvin) (gmin : Float) : Type 0 where
   pub isat-sign : NonNegative isat
   pub isat-size : AtMost isat (pos 89)
   pub polarity : (pol ≡ +1) ⊎ (pol ≡ neg +1)
   pub v0-size : AtMost v0 (pos 11)
-  pub t-range : Range t (nat 200) (nat 500)
+  pub t-range : Range (t .0) (nat 200) (nat 500)
   pub gmin-range : Range gmin (nat 0) (nat 1)
 
 -- "both junctions lie within ±500 thermal voltages"
 abbrev pub greatestQuotient : ℚ
 greatestQuotient = nat 500
 
-pub record WithinThermalVoltages (pol v0 t : Float) : Type 0 where
+pub record WithinThermalVoltages (pol v0 : Float) (t : Kelvin) : Type 0 where
   pub size : absq (value (junctionVoltage pol v0)) ≤q greatestQuotient *q value (thermalVoltageOf t)
 
 -- ---- the promise of a conductance g and an offset: both are finite and, multiplied out, return the current, whichever sum of 4,000 terms or more is taken for E
-pub record JunctionReturns (g offset isat pol v0 t gmin : Float) : Type 0 where
+pub record JunctionReturns (g offset isat pol v0 : Float) (t : Kelvin) (gmin : Float) : Type 0 where
   pub conductance-finite : T (finite g)
   pub offset-finite : T (finite offset)
   pub close : (N : ℕ) → Enough N → let e = E N (thermalQuotient pol v0 t) in let v = junctionVoltage pol v0 in

@@ -31,9 +31,9 @@ bounds-of D = parameter-bounds (D .card) (D .geometry) (D .scaled)
 
 pub fresh-bounds : (d : Mosfet1) → Fresh d → DeviceBounds d
 fresh-bounds d F =
-    let fresh = fresh-state (F .isPmos) (F .bytes) (F .offsets) (F .lengths) (F .values) (F .space) (F .count) d (F .returned) in
+    let fresh = fresh-state (F .isPmos) (F .bytes) (F .offsets) (F .lengths) (F .values) (F .space) _ (F .returned) in
     record {
-      parameters = card-sizes (F .isPmos) (F .bytes) (F .offsets) (F .lengths) (F .values) (F .space) (F .count) d (F .returned) (F .f64);
+      parameters = card-sizes (F .isPmos) (F .bytes) (F .offsets) (F .lengths) (F .values) (F .space) _ (F .returned) (F .f64);
       state = fresh-sizes d (fresh .point) (fresh .charges) (fresh .histories) (fresh .disc);
     }
 
@@ -53,10 +53,10 @@ same-parameters c g s D = record { card = subst CardSizes (sym c) (D .card); geo
 pub calls-keep-bounds : Keeps DeviceBounds
 unfolding evaluatedOf evaluatedFromOf committedOf
 calls-keep-bounds = record {
-  sized = λ d bytes offsets lengths values space count e fs h D.
-      let r = geometry-done d bytes offsets lengths values space count e h .1 in
+  sized = λ d bytes offsets lengths values space k fs h D.
+      let r = geometry-done d bytes offsets lengths values space k h .1 in
       record {
-        parameters = geometry-keeps-sizes d bytes offsets lengths values space count e h (D .parameters);
+        parameters = geometry-keeps-sizes d bytes offsets lengths values space k h (D .parameters);
         state = subst StateSizes (sym r) (same-state {d = d} refl refl refl refl (D .state));
       };
   scaled = λ d t e f h D.

@@ -4,7 +4,9 @@ use geometry::GeometryAnswer;
 use record::DeviceRecord;
 ghost use mathlib.Core.Path.{_≡_};
 ghost use lib.ListN.{length};
-ghost use Rattle.record_card.specs.Keys.{cardOutcome, cardCall, cardCallList, geometryOutcome, geometryCall, geometryCallList};
+ghost use Rattle.card.specs.Card.{outcomeOfCard};
+ghost use Rattle.geometry.specs.Geometry.{outcomeOfGeometry};
+ghost use Rattle.record_card.specs.Keys.{keysOutcome, cardCall, cardCallList, geometryCall, geometryCallList};
 
 // The device after a card or geometry call, the count of unknown keys, and the number of the refusal. A refused call's device is
 // the record handed in, its count 0.
@@ -16,7 +18,7 @@ pub struct KeysOutcome {
 }
 
 fn card_outcome(old: DeviceRecord, a: CardAnswer) -> KeysOutcome
-    ensures { λ o. ⌜ o ≡ cardOutcome old a ⌝ }
+    ensures { λ o. ⌜ o ≡ keysOutcome old (outcomeOfCard a) ⌝ }
 {
     match a {
         CardAnswer::Done(d, n) => KeysOutcome {
@@ -58,7 +60,7 @@ pub fn from_model_params(
 }
 
 fn geometry_outcome(r: DeviceRecord, a: GeometryAnswer) -> KeysOutcome
-    ensures { λ o. ⌜ o ≡ geometryOutcome r a ⌝ }
+    ensures { λ o. ⌜ o ≡ keysOutcome r (outcomeOfGeometry a) ⌝ }
 {
     match a {
         GeometryAnswer::Done(d, n) => KeysOutcome {

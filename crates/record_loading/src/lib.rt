@@ -4,7 +4,9 @@ use loading::LoadKind;
 use record::DeviceRecord;
 ghost use mathlib.Core.Path.{_≡_};
 ghost use Rattle.assembly.specs.Assembly.{Pattern};
-ghost use Rattle.record_loading.specs.Load.{kindFrom, loadNumber, loadCall, loadedSide, loadedMatrix};
+ghost use Rattle.device.specs.Refusals.{number};
+ghost use Rattle.loading.specs.Loading.{outcomeOfLoad};
+ghost use Rattle.record_loading.specs.Load.{kindFrom, loadCall, loadedSide, loadedMatrix};
 
 fn kind_from(transient: u64, alpha: f64) -> LoadKind
     ensures { λ r. ⌜ r ≡ kindFrom transient alpha ⌝ }
@@ -17,7 +19,7 @@ fn kind_from(transient: u64, alpha: f64) -> LoadKind
 }
 
 fn load_number(a: LoadAnswer) -> u64
-    ensures { λ r. ⌜ r ≡ loadNumber a ⌝ }
+    ensures { λ r. ⌜ r ≡ number (outcomeOfLoad a) ⌝ }
 {
     match a {
         LoadAnswer::Done => 0,

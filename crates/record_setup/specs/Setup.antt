@@ -3,10 +3,10 @@ use Prim.Native.Nat.{ℕ}
 use mathlib.Core.Bool.{Bool, cond, _&&_}
 use lib.Dec.{leb}
 use lib.Ieee.{Float}
+use Rattle.device.specs.Refusals.{Outcome, done, refused}
+use Rattle.device.specs.declared.Mosfet1.{Mosfet1}
 use Rattle.setup.specs.Scaling.{scalingOf}
 use Rattle.setup.specs.Binding.{extraNodes, bindingOf}
-use Rattle.setup.specs.declared.SetupAnswer.{SetupAnswer}
-use Rattle.setup.specs.declared.SetupAnswer.the-variants as SetupAnswer
 use Rattle.record.specs.Records.{deviceRecord}
 use Rattle.record.specs.declared.DeviceOutcome.{DeviceOutcome}
 use Rattle.record.specs.declared.DeviceRecord.{DeviceRecord}
@@ -15,9 +15,9 @@ use Rattle.from_record.specs.Tags.{goodTags}
 use Rattle.record_setup.specs.declared.CountOutcome.{CountOutcome}
 use Rattle.record_setup.specs.declared.NodesRecord.{NodesRecord}
 
-unfoldable pub setupOutcome : DeviceRecord → SetupAnswer → DeviceOutcome
-setupOutcome r (SetupAnswer.Done d) = record { refusal = 0; device = deviceRecord d }
-setupOutcome r (SetupAnswer.Refused n) = record { refusal = n; device = r }
+unfoldable pub setupOutcome : DeviceRecord → Outcome Mosfet1 → DeviceOutcome
+setupOutcome r (done d) = record { refusal = 0; device = deviceRecord d }
+setupOutcome r (refused n) = record { refusal = n; device = r }
 
 -- the temperature is in kelvin
 unfoldable pub scalingCall : DeviceRecord → Float → DeviceOutcome
@@ -31,7 +31,7 @@ extraNodesCall r =
 unfoldable pub goodNodes : NodesRecord → Bool
 goodNodes n = leb (n .drain .tag) 1 && leb (n .gate .tag) 1 && leb (n .source .tag) 1 && leb (n .bulk .tag) 1
 
-unfoldable pub boundBy : DeviceRecord → NodesRecord → ℕ → SetupAnswer
+unfoldable pub boundBy : DeviceRecord → NodesRecord → ℕ → Outcome Mosfet1
 boundBy r n first =
     bindingOf (deviceFrom r) (nodeFrom (n .drain)) (nodeFrom (n .gate)) (nodeFrom (n .source)) (nodeFrom (n .bulk)) first
 

@@ -5,6 +5,7 @@ use record::NodeRecord;
 use setup::SetupAnswer;
 use temperature::Kelvin;
 ghost use mathlib.Core.Path.{_≡_};
+ghost use Rattle.setup.specs.Scaling.{outcomeOfSetup};
 ghost use Rattle.record_setup.specs.Setup.{setupOutcome, scalingCall, goodNodes, boundBy, bindingCall, extraNodesCall};
 
 // A count, and the number of the refusal.
@@ -24,7 +25,7 @@ pub struct NodesRecord {
 }
 
 fn setup_outcome(r: DeviceRecord, a: SetupAnswer) -> DeviceOutcome
-    ensures { λ o. ⌜ o ≡ setupOutcome r a ⌝ }
+    ensures { λ o. ⌜ o ≡ setupOutcome r (outcomeOfSetup a) ⌝ }
 {
     match a {
         SetupAnswer::Done(d) => DeviceOutcome {
@@ -83,7 +84,7 @@ fn good_nodes(n: NodesRecord) -> bool
 }
 
 fn bind(r: DeviceRecord, n: NodesRecord, first: usize) -> SetupAnswer
-    ensures { λ a. ⌜ a ≡ boundBy r n first ⌝ }
+    ensures { λ a. ⌜ outcomeOfSetup a ≡ boundBy r n first ⌝ }
 {
     let d = from_record::device_from(r);
     let to_drain = from_record::node_from(n.drain);

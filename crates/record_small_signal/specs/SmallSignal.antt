@@ -1,16 +1,14 @@
 -- Noise and reactances of a device that is a record: a record with an unknown tag is refused under 100, any other as its device is.
 use Prim.Native.Nat.{ℕ}
 use mathlib.Core.Bool.{cond}
+use mathlib.Core.List.{List, [], _∷_}
 use lib.Ieee.{Float}
 use Rattle.exact.specs.Float64.{+0}
-use Rattle.model.specs.SmallSignal.{noiseOf, reactancesOf}
-use Rattle.model.specs.declared.small_signal.Noise.{Noise}
-use Rattle.model.specs.declared.small_signal.Noise.the-variants as Noise
+use Rattle.device.specs.Refusals.{Outcome, done, refused}
+use Rattle.model.specs.SmallSignal.{NoiseSource, noiseOf, reactancesOf}
 use Rattle.model.specs.declared.small_signal.Reactance.{Reactance}
 use Rattle.model.specs.declared.small_signal.Reactance.the-variants as Reactance
 use Rattle.model.specs.declared.small_signal.FiveReactances.{FiveReactances}
-use Rattle.model.specs.declared.small_signal.Reactances.{Reactances}
-use Rattle.model.specs.declared.small_signal.Reactances.the-variants as Reactances
 use Rattle.record.specs.Records.{nodeRecord}
 use Rattle.record.specs.declared.DeviceRecord.{DeviceRecord}
 use Rattle.record.specs.declared.NodeRecord.{NodeRecord}
@@ -27,11 +25,14 @@ groundRecord = record { tag = 0; index = 0 }
 unfoldable pub noiseRefused : ℕ → NoiseOutcome
 noiseRefused n = record { refusal = n; tag = 0; drain = groundRecord; source = groundRecord; density = +0 }
 
-unfoldable pub noiseOutcome : Noise → NoiseOutcome
-noiseOutcome Noise.Quiet = noiseRefused 0
-noiseOutcome (Noise.Source drain source s) =
-    record { refusal = 0; tag = 1; drain = nodeRecord drain; source = nodeRecord source; density = s }
-noiseOutcome (Noise.Refused n) = noiseRefused n
+-- the first source of a list, of which there is at most one
+unfoldable pub noiseRecord : List NoiseSource → NoiseOutcome
+noiseRecord [] = noiseRefused 0
+noiseRecord (s ∷ others) = record { refusal = 0; tag = 1; drain = nodeRecord (s .pos); source = nodeRecord (s .neg); density = s .density }
+
+unfoldable pub noiseOutcome : Outcome (List NoiseSource) → NoiseOutcome
+noiseOutcome (done sources) = noiseRecord sources
+noiseOutcome (refused n) = noiseRefused n
 
 -- the temperature is in kelvin
 unfoldable pub noiseCall : DeviceRecord → Float → Float → NoiseOutcome
@@ -59,9 +60,9 @@ unfoldable pub reactancesRefused : ℕ → ReactancesOutcome
 reactancesRefused n =
     record { refusal = n; gs = noReactance; gd = noReactance; gb = noReactance; bs = noReactance; bd = noReactance }
 
-unfoldable pub reactancesOutcome : Reactances → ReactancesOutcome
-reactancesOutcome (Reactances.Found five) = fiveRecord five
-reactancesOutcome (Reactances.Refused n) = reactancesRefused n
+unfoldable pub reactancesOutcome : Outcome FiveReactances → ReactancesOutcome
+reactancesOutcome (done five) = fiveRecord five
+reactancesOutcome (refused n) = reactancesRefused n
 
 unfoldable pub reactancesCall : DeviceRecord → ReactancesOutcome
 reactancesCall r = cond (goodTags r) (reactancesOutcome (reactancesOf (deviceFrom r))) (reactancesRefused 100)

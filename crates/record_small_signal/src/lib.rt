@@ -7,6 +7,7 @@ use record::DeviceRecord;
 use record::NodeRecord;
 use temperature::Kelvin;
 ghost use mathlib.Core.Path.{_≡_};
+ghost use Rattle.model.specs.SmallSignal.{outcomeOfNoise, outcomeOfReactances};
 ghost use Rattle.record_small_signal.specs.SmallSignal.{noiseRefused, noiseOutcome, noiseCall, noReactance, reactanceRecord, fiveRecord, reactancesRefused, reactancesOutcome, reactancesCall};
 
 // A noise source: tag 0 none, tag 1 from drain to source with its density; and the number of the refusal.
@@ -53,7 +54,7 @@ fn noise_refused(n: u64) -> NoiseOutcome
 }
 
 fn noise_outcome(a: Noise) -> NoiseOutcome
-    ensures { λ o. ⌜ o ≡ noiseOutcome a ⌝ }
+    ensures { λ o. ⌜ o ≡ noiseOutcome (outcomeOfNoise a) ⌝ }
 {
     match a {
         Noise::Quiet => noise_refused(0),
@@ -139,7 +140,7 @@ fn reactances_refused(n: u64) -> ReactancesOutcome
 }
 
 fn reactances_outcome(a: Reactances) -> ReactancesOutcome
-    ensures { λ o. ⌜ o ≡ reactancesOutcome a ⌝ }
+    ensures { λ o. ⌜ o ≡ reactancesOutcome (outcomeOfReactances a) ⌝ }
 {
     match a {
         Reactances::Found(five) => five_record(five),

@@ -1,6 +1,6 @@
 -- `record_card::card_outcome` meets its contract.
 -- Assumes nothing.
-use Rattle.record_card.specs.Keys.{cardOutcome}
+use Rattle.record_card.specs.Keys.{keysOutcome}
 use borrow.Author.Needs.{needs}
 use Rattle.record_card.proofs.card_outcome.Statement.{statement}
 use Rattle.record_card.proofs.card_outcome.Tie as tie
@@ -18,11 +18,11 @@ wide-requires : tie.Need-wide-requires
 wide-requires c κs = search needs
 
 returns : tie.Need-returns
-unfolding cardOutcome
+unfolding keysOutcome
 returns c = rw (c .device-record .ensures, c .before .before .a .given .1)
 
 returns-2 : tie.Need-returns-2
-unfolding cardOutcome
+unfolding keysOutcome
 returns-2 c = rw (c .wide .ensures, c .before .before .a2 .given .1)
 
 pub card-outcome-spec : {M : Type 1} → statement M

@@ -1,6 +1,6 @@
 -- `record_card::geometry_outcome` meets its contract.
 -- Assumes nothing.
-use Rattle.record_card.specs.Keys.{geometryOutcome}
+use Rattle.record_card.specs.Keys.{keysOutcome}
 use borrow.Author.Needs.{needs}
 use Rattle.record_card.proofs.geometry_outcome.Statement.{statement}
 use Rattle.record_card.proofs.geometry_outcome.Tie as tie
@@ -18,11 +18,11 @@ wide-requires : tie.Need-wide-requires
 wide-requires c κs = search needs
 
 returns : tie.Need-returns
-unfolding geometryOutcome
+unfolding keysOutcome
 returns c = rw (c .device-record .ensures, c .before .before .a .given .1)
 
 returns-2 : tie.Need-returns-2
-unfolding geometryOutcome
+unfolding keysOutcome
 returns-2 c = rw (c .wide .ensures, c .before .before .a2 .given .1)
 
 pub geometry-outcome-spec : {M : Type 1} → statement M

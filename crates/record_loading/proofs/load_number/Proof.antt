@@ -1,6 +1,5 @@
 -- `record_loading::load_number` meets its contract.
 -- Assumes nothing.
-use Rattle.record_loading.specs.Load.{loadNumber}
 use borrow.Author.Needs.{needs}
 use Rattle.record_loading.proofs.load_number.Statement.{statement}
 use Rattle.record_loading.proofs.load_number.Tie as tie
@@ -15,11 +14,9 @@ wide-requires : tie.Need-wide-requires
 wide-requires c κs = search needs
 
 returns : tie.Need-returns
-unfolding loadNumber
 returns c = rw (c .enum-told .given .1)
 
 returns-2 : tie.Need-returns-2
-unfolding loadNumber
 returns-2 c = rw (c .wide .ensures, c .before .before .a .given .1)
 
 pub load-number-spec : {M : Type 1} → statement M

@@ -1,6 +1,6 @@
 -- `record_small_signal::noise_outcome` meets its contract.
 -- Assumes nothing.
-use Rattle.record_small_signal.specs.SmallSignal.{noiseOutcome}
+use Rattle.record_small_signal.specs.SmallSignal.{noiseOutcome, noiseRecord}
 use borrow.Author.Needs.{needs}
 use Rattle.record_small_signal.proofs.noise_outcome.Statement.{statement}
 use Rattle.record_small_signal.proofs.noise_outcome.Tie as tie
@@ -30,15 +30,15 @@ noise-refused-requires-2 : tie.Need-noise-refused-requires-2
 noise-refused-requires-2 c κs = search needs
 
 returns : tie.Need-returns
-unfolding noiseOutcome
+unfolding noiseOutcome noiseRecord
 returns c = rw (c .noise-refused .ensures, c .before .enum-told .given .1)
 
 returns-2 : tie.Need-returns-2
-unfolding noiseOutcome
+unfolding noiseOutcome noiseRecord
 returns-2 c = rw (c .node-record2 .ensures, c .before .node-record .ensures, c .before .before .before .a .given .1)
 
 returns-3 : tie.Need-returns-3
-unfolding noiseOutcome
+unfolding noiseOutcome noiseRecord
 returns-3 c = rw (c .noise-refused2 .ensures, c .before .wide .ensures, c .before .before .before .a2 .given .1)
 
 pub noise-outcome-spec : {M : Type 1} → statement M
