@@ -46,14 +46,34 @@ few bytes (o ∷ os) [] vs = omega arith
 few bytes (o ∷ os) (n ∷ ls) [] = omega arith
 few bytes (o ∷ os) (n ∷ ls) (v ∷ vs) = omega (arith, few bytes os ls vs)
 
+-- the count, one key more in front; from which number the places are counted is nothing to it
+one-more : (b : Bool) (i j : ℕ) (ps qs : List ℕ) → length ps ≡ length qs → length (cond b (i ∷ ps) ps) ≡ length (cond b (j ∷ qs) qs)
+one-more true i j ps qs h = ap suc h
+one-more false i j ps qs h = h
+
+as-many-from : (table : Table) (i j : ℕ) (es : List Entry) → length (unknownFrom table i es) ≡ length (unknownFrom table j es)
+unfolding unknownFrom
+as-many-from table i j [] = refl
+as-many-from table i j (e ∷ es) = one-more (isUnknown (meaningOf table (e .key))) i j _ _ (as-many-from table (suc i) (suc j) es)
+
+longer : (b : Bool) (i : ℕ) (ps : List ℕ) → length (cond b (i ∷ ps) ps) ≡ cond b (length ps + 1) (length ps)
+longer true i ps = sym (add-one (length ps))
+longer false i ps = refl
+
+pub count-cons : (table : Table) (e : Entry) (es : List Entry) → unknownCount table (e ∷ es) ≡ cond (isUnknown (meaningOf table (e .key))) (unknownCount table es + 1) (unknownCount table es)
+unfolding unknownFrom unknownCount
+count-cons table e es =
+    let b = isUnknown (meaningOf table (e .key)) in
+    longer b 0 (unknownFrom table (suc 0) es) ∙ ap (λ (n : ℕ). cond b (n + 1) n) (as-many-from table (suc 0) 0 es)
+
 counted : (b : Bool) (n m : ℕ) → n ≤ m → cond b (n + 1) n ≤ suc m
 counted true n m h = omega arith
 counted false n m h = omega arith
 
 count-few : (table : Table) (es : List Entry) → unknownCount table es ≤ length es
-unfolding unknownCount
+unfolding unknownFrom unknownCount
 count-few table [] = omega arith
-count-few table (e ∷ es) = counted (isUnknown (meaningOf table (e .key))) _ _ (count-few table es)
+count-few table (e ∷ es) = rw (count-cons table e es) (counted (isUnknown (meaningOf table (e .key))) _ _ (count-few table es))
 
 pub count-rest : (table : Table) (bytes os ls : List ℕ) (vs : List Float) (i : ℕ) → unknownCount table (rest bytes os ls vs i) ≤ length os - i
 count-rest table bytes os ls vs i =
@@ -62,8 +82,8 @@ count-rest table bytes os ls vs i =
 -- ---- the scan, from the last key to the first
 
 pub scan-cons : (table : Table) (e : Entry) (es : List Entry) → scannedWith (scanOf table es) (beyondAscii (e .key)) (meaningOf table (e .key)) (e .value) ≡ scanOf table (e ∷ es)
-unfolding anyBeyondAscii unknownCount anyOutside anyTnomOutside
-scan-cons table e es = refl
+unfolding anyBeyondAscii anyOutside anyTnomOutside
+scan-cons table e es = rw (count-cons table e es)
 
 -- ---- the list of unknown places
 
@@ -105,8 +125,7 @@ module _ (bytes offsets lengths : List ℕ) (values : List Float) (table : Table
   unknown-here = isUnknown (meaningOf table (keyAt bytes offsets lengths i))
 
   count-here : unknownCount table (rest bytes offsets lengths values i) ≡ cond unknown-here (unknownCount table (rest bytes offsets lengths values (suc i)) + 1) (unknownCount table (rest bytes offsets lengths values (suc i)))
-  unfolding unknownCount
-  count-here = ap (unknownCount table) (entry-step bytes offsets lengths values p i h)
+  count-here = ap (unknownCount table) (entry-step bytes offsets lengths values p i h) ∙ count-cons table _ _
 
   pub room-for-place : (b : Bool) (k m : ℕ) → b ≡ unknown-here → k + unknownCount table (rest bytes offsets lengths values i) ≤ m → b ≡ true → k < m
   room-for-place b k m e r t =

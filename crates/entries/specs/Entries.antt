@@ -49,9 +49,9 @@ unknownFrom table i [] = []
 unknownFrom table i (e ∷ es) =
     cond (isUnknown (meaningOf table (e .key))) (i ∷ unknownFrom table (suc i) es) (unknownFrom table (suc i) es)
 
+-- "A made-up count fails, since the list fixes it"
 unfoldable pub unknownCount : Table → List Entry → ℕ
-unknownCount table [] = 0
-unknownCount table (e ∷ es) = cond (isUnknown (meaningOf table (e .key))) (unknownCount table es + 1) (unknownCount table es)
+unknownCount table es = length (unknownFrom table 0 es)
 
 -- row 4: the value of a key that is known lies outside its range, overridden or not
 unfoldable pub anyOutside : Table → List Entry → Bool

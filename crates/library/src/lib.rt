@@ -12,6 +12,7 @@ use record_setup::NodesRecord;
 use record_small_signal::NoiseOutcome;
 use record_small_signal::ReactancesOutcome;
 use record_steps::ChangesOrRefusal;
+use record_steps::CommitAnswer;
 use record_steps::ConditionsRecord;
 use record_steps::EvaluationOutcome;
 use record_steps::EvaluationReply;
@@ -196,15 +197,19 @@ pub extern "C" fn mivtolgya_load_in_place(
     record_loading::load(r, transient, alpha, rhs, values, columns, offsets, lengths)
 }
 
-// `mivtolgya_commit_timestep`. Only the parts that a commit changes are written.
+// `mivtolgya_commit_timestep`. Only the parts that a commit changes are written, and none where it is refused.
 #[no_mangle]
 pub extern "C" fn mivtolgya_commit_in_place(device: &mut DeviceRecord, x: &[f64]) -> u64
     ensures { λ o. ⌜ (o ≡ commitCall (now (device .entry)) (now (x .entry)) .refusal)
         × (now (device .exit) ≡ commitCall (now (device .entry)) (now (x .entry)) .device) ⌝ }
 {
     let old = *device;
-    let changes = record_steps::commit(old, x);
-    device.point = changes.point;
-    device.histories = changes.histories;
-    changes.refusal
+    match record_steps::commit(old, x) {
+        CommitAnswer::Changes(changes) => {
+            device.point = changes.point;
+            device.histories = changes.histories;
+            0
+        }
+        CommitAnswer::Refusal(number) => number,
+    }
 }

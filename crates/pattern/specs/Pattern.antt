@@ -1,6 +1,5 @@
 -- The matrix pattern: the columns of all rows in one list, and for each row the offset and the length of its part.
-use Prim.Native.Nat.{ℕ, suc, _+_, _<_, _≤_}
-use mathlib.Core.Path.{_≡_}
+use Prim.Native.Nat.{ℕ, suc, _+_, _-_, _^_}
 use mathlib.Core.Bool.{Bool, true, false, cond, _&&_}
 use mathlib.Core.List.{List, [], _∷_}
 use lib.ListN.{length, getD}
@@ -8,6 +7,7 @@ use lib.Seq.{slice}
 use lib.Dec.{leb, ltb, eqb}
 use Rattle.pattern.specs.declared.Found.{Found}
 use Rattle.pattern.specs.declared.Found.the-variants.{At, Absent}
+use Rattle.pattern.specs.declared.RowSpan.{RowSpan}
 
 -- each column of the list is above the one before it
 unfoldable pub risingAfter : ℕ → List ℕ → Bool
@@ -45,15 +45,25 @@ unfoldable pub cellOf : List ℕ → List ℕ → List ℕ → ℕ → ℕ → F
 cellOf columns offsets lengths row column =
     placeIn (getD offsets row 0) (rowColumns columns (getD offsets row 0) (getD lengths row 0)) column
 
--- a row's part of the columns: its offset and length, 0 and 0 for a row behind the last
-pub record SpanOf (columns offsets lengths : List ℕ) (row from len : ℕ) : Type 0 where
-  pub from-is : from ≡ getD offsets row 0
-  pub len-is : len ≡ getD lengths row 0
-  pub within : from + len ≤ length columns
-  pub rises : rising (rowColumns columns from len) ≡ true
+-- a row's part of the columns: its offset, its length, and the column that it starts with, 0 where it is empty. All three are 0 for a row
+-- behind the last
+unfoldable pub spanOf : List ℕ → List ℕ → List ℕ → ℕ → RowSpan
+spanOf columns offsets lengths row =
+    record {
+      from = getD offsets row 0;
+      len = getD lengths row 0;
+      first = cond (eqb (getD lengths row 0) 0) 0 (getD columns (getD offsets row 0) 0);
+    }
 
--- a guess at the place of a column in a row of a length: right where it names one, and then the column is that of a u32
-pub record Guessed (len column : ℕ) (place r : Found) : Type 0 where
-  pub right : (p : ℕ) → r ≡ At p → place ≡ At p
-  pub narrow : (p : ℕ) → r ≡ At p → column < 4294967296
-  pub some : (p : ℕ) → r ≡ At p → 0 < len
+-- how far a column lies behind the first, as 64 bits count it
+unfoldable pub distance : ℕ → ℕ → ℕ
+distance first column = cond (leb first column) (column - first) (column + (2 ^ 64 - first))
+
+-- a place n behind a row's start, if the row reaches that far and the column stands there
+unfoldable pub placeBehind : List ℕ → ℕ → ℕ → ℕ → ℕ → Found
+placeBehind columns from len column n =
+    cond (leb len n) Absent (cond (eqb (getD columns (from + n) 0) column) (At (from + n)) Absent)
+
+-- the place that a column has in a row without gaps: as far behind the row's start as the column is behind the row's first
+unfoldable pub guessOf : List ℕ → ℕ → ℕ → ℕ → ℕ → Found
+guessOf columns from len first column = placeBehind columns from len column (distance first column)

@@ -4,7 +4,7 @@ ghost use mathlib.Core.Bool.{true};
 ghost use Prim.Native.Nat.{_+_, _≤_};
 ghost use lib.ListN.{length};
 ghost use lib.Seq.{slice};
-ghost use Rattle.pattern.specs.Pattern.{rising, wellFormed, placeIn, cellOf, SpanOf, Guessed};
+ghost use Rattle.pattern.specs.Pattern.{rising, wellFormed, placeIn, cellOf, spanOf, guessOf};
 
 // Where a column stands, if it does.
 pub enum Found {
@@ -12,7 +12,7 @@ pub enum Found {
     Absent,
 }
 
-// A row's part of the columns. The first column in it serves guesses and carries no claim; 0 where the row is empty.
+// A row's part of the columns, and the first column in it, 0 where the row is empty.
 pub struct RowSpan {
     pub from: usize,
     pub len: usize,
@@ -106,7 +106,7 @@ fn wide(x: u32) -> usize
 // A row's part of the columns; a row behind the last is empty.
 pub fn row_span(columns: &[u32], offsets: &[usize], lengths: &[usize], row: usize) -> RowSpan
     requires { ⌜ wellFormed (now columns) (now offsets) (now lengths) (length (now columns)) ≡ true ⌝ }
-    ensures { λ r. ⌜ SpanOf (now (columns .entry)) (now (offsets .entry)) (now (lengths .entry)) row (r .from) (r .len) ⌝ }
+    ensures { λ r. ⌜ r ≡ spanOf (now (columns .entry)) (now (offsets .entry)) (now (lengths .entry)) row ⌝ }
 {
     if offsets.len() <= row {
         return RowSpan {
@@ -131,7 +131,7 @@ pub fn row_span(columns: &[u32], offsets: &[usize], lengths: &[usize], row: usiz
 // The place that a column has in a row without gaps, tried before the search: in a short row it is mostly the right one.
 pub fn guess(columns: &[u32], from: usize, len: usize, first: usize, column: usize) -> Found
     requires { ⌜ (from + len ≤ length (now columns)) × (rising (slice from (from + len) (now columns)) ≡ true) ⌝ }
-    ensures { λ r. ⌜ Guessed len column (placeIn from (slice from (from + len) (now (columns .entry))) column) r ⌝ }
+    ensures { λ r. ⌜ r ≡ guessOf (now (columns .entry)) from len first column ⌝ }
 {
     let ahead = std::num::wrapping_sub_usize(column, first);
     if len <= ahead {

@@ -1,23 +1,51 @@
--- What a call changes of a record, put into the record handed in, makes the record that the call answers.
+-- What a call gives to be stored, put into the record handed in, makes the record that the call answers.
 -- Assumes nothing.
 use Prim.Native.Nat.{ℕ}
 use mathlib.Core.Path.{_≡_, refl, ap, _∙_}
 use mathlib.Core.Bool.{Bool, true, false, cond}
 use mathlib.Core.List.{List}
+use lib.Dec.{eqb}
 use lib.Ieee.{Float}
-use Rattle.model.specs.Calls.{commitOf}
+use Rattle.model.specs.Calls.{evalOf, commitOf}
+use Rattle.model.specs.declared.calls.Evaluation.{Evaluation}
+use Rattle.model.specs.declared.calls.Evaluation.the-variants as Evaluation
 use Rattle.model.specs.declared.calls.Commit.{Commit}
 use Rattle.model.specs.declared.calls.Commit.the-variants as Commit
 use Rattle.record.specs.declared.DeviceOutcome.{DeviceOutcome}
 use Rattle.record.specs.declared.DeviceRecord.{DeviceRecord}
 use Rattle.from_record.specs.Devices.{deviceFrom}
 use Rattle.from_record.specs.Tags.{goodTags}
+use Rattle.record_steps.specs.declared.ConditionsRecord.{ConditionsRecord}
 use Rattle.record_steps.specs.declared.EvaluationOutcome.{EvaluationOutcome}
 use Rattle.record_steps.specs.declared.EvaluationReply.{EvaluationReply}
 use Rattle.record_steps.specs.declared.EvaluationChanges.{EvaluationChanges}
+use Rattle.record_steps.specs.declared.ChangesOrRefusal.{ChangesOrRefusal}
 use Rattle.record_steps.specs.declared.ChangesOrRefusal.the-variants.{Changes, Refusal}
 use Rattle.record_steps.specs.declared.CommitChanges.{CommitChanges}
-use Rattle.record_steps.specs.Steps.{replyOf, changedRecord, outcomeFrom, committedRecord, commitOutcome, commitCall, commitChangesOf, advancedRecord}
+use Rattle.record_steps.specs.declared.CommitAnswer.{CommitAnswer}
+use Rattle.record_steps.specs.declared.CommitAnswer.the-variants as CommitAnswer
+use Rattle.record_steps.specs.Steps.{goodConditions, conditionsFrom, refusedReply, refusedEvaluation, evaluatedRecord, evaluatedOutcome, evaluationOutcome, evalCall, replyOf, changedRecord, outcomeFrom, evaluatedChanges, evaluationGiven, evaluateOf, committedRecord, commitOutcome, commitCall, advancedRecord, commitGiven, commitRecordOf, commitOutcomeFrom}
+
+-- ---- the evaluation
+
+made-either : (r : DeviceRecord) (b : Bool) (c d : ChangesOrRefusal) (o p : EvaluationOutcome) → outcomeFrom r c ≡ o → outcomeFrom r d ≡ p → outcomeFrom r (cond b c d) ≡ cond b o p
+made-either r true c d o p h k = h
+made-either r false c d o p h k = k
+
+made-given : (r : DeviceRecord) (a : Evaluation) → outcomeFrom r (evaluationGiven a) ≡ evaluationOutcome r a
+unfolding outcomeFrom evaluationGiven refusedReply evaluatedChanges changedRecord evaluationOutcome evaluatedOutcome evaluatedRecord refusedEvaluation
+made-given r (Evaluation.Done e) = refl
+made-given r (Evaluation.Refused n) = refl
+
+pub evaluation-made : (r : DeviceRecord) (x : List Float) (k : ConditionsRecord) → outcomeFrom r (evaluateOf r x k) ≡ evalCall r x k
+unfolding evaluateOf evalCall outcomeFrom changedRecord refusedReply refusedEvaluation
+evaluation-made r x k =
+    made-either r (goodTags r) _ _ _ _
+    (made-either r (goodConditions k) _ _ _ _ (made-given r (evalOf (deviceFrom r) x (eqb (k .transient) 1) (conditionsFrom k))) refl)
+    refl
+
+pub evaluation-outcome : (r : DeviceRecord) (x : List Float) (k : ConditionsRecord) (c : ChangesOrRefusal) → c ≡ evaluateOf r x k → outcomeFrom r c ≡ evalCall r x k
+evaluation-outcome r x k c e = ap (outcomeFrom r) e ∙ evaluation-made r x k
 
 -- what holds of an evaluation's changes, and of its refusal, from the outcome that they make with the record handed in
 pub reply-of-changes : (r : DeviceRecord) (c : EvaluationChanges) (o : EvaluationOutcome) → outcomeFrom r (Changes c) ≡ o → c .reply ≡ replyOf o
@@ -36,30 +64,37 @@ pub device-of-refusal : (r : DeviceRecord) (y : EvaluationReply) (o : Evaluation
 unfolding outcomeFrom
 device-of-refusal r y o e = ap (λ (p : EvaluationOutcome). p .device) e
 
--- a commit's outcome, made of the record handed in and the changes
-CommitMade : DeviceRecord → DeviceOutcome → Type 0
-CommitMade r o = record { refusal = o .refusal; device = advancedRecord r (commitChangesOf o) } ≡ o
+-- ---- the commit
 
-commit-refused-made : (r : DeviceRecord) (n : ℕ) → CommitMade r (record { refusal = n; device = r })
-unfolding CommitMade advancedRecord commitChangesOf
-commit-refused-made r n = refl
+commit-either : (r : DeviceRecord) (b : Bool) (c d : CommitAnswer) (o p : DeviceOutcome) → commitOutcomeFrom r c ≡ o → commitOutcomeFrom r d ≡ p → commitOutcomeFrom r (cond b c d) ≡ cond b o p
+commit-either r true c d o p h k = h
+commit-either r false c d o p h k = k
 
-commit-outcome-made : (r : DeviceRecord) (a : Commit) → CommitMade r (commitOutcome r a)
-unfolding CommitMade commitOutcome committedRecord advancedRecord commitChangesOf
-commit-outcome-made r (Commit.Done e) = refl
-commit-outcome-made r (Commit.Refused n) = refl
+commit-given : (r : DeviceRecord) (a : Commit) → commitOutcomeFrom r (commitGiven a) ≡ commitOutcome r a
+unfolding commitOutcomeFrom commitGiven advancedRecord commitOutcome committedRecord
+commit-given r (Commit.Done e) = refl
+commit-given r (Commit.Refused n) = refl
 
-commit-either-made : (r : DeviceRecord) (b : Bool) (o p : DeviceOutcome) → CommitMade r o → CommitMade r p → CommitMade r (cond b o p)
-commit-either-made r true o p h k = h
-commit-either-made r false o p h k = k
+pub commit-made : (r : DeviceRecord) (x : List Float) → commitOutcomeFrom r (commitRecordOf r x) ≡ commitCall r x
+unfolding commitRecordOf commitCall commitOutcomeFrom advancedRecord
+commit-made r x = commit-either r (goodTags r) _ _ _ _ (commit-given r (commitOf (deviceFrom r) x)) refl
 
-pub commit-from-changes : (r : DeviceRecord) (x : List Float) → record { refusal = commitCall r x .refusal; device = advancedRecord r (commitChangesOf (commitCall r x)) } ≡ commitCall r x
-unfolding CommitMade commitCall
-commit-from-changes r x = commit-either-made r (goodTags r) _ _ (commit-outcome-made r (commitOf (deviceFrom r) x)) (commit-refused-made r 100)
+pub commit-outcome : (r : DeviceRecord) (x : List Float) (c : CommitAnswer) → c ≡ commitRecordOf r x → commitOutcomeFrom r c ≡ commitCall r x
+commit-outcome r x c e = ap (commitOutcomeFrom r) e ∙ commit-made r x
 
-pub refusal-of-changes : (o : DeviceOutcome) (c : CommitChanges) → c ≡ commitChangesOf o → c .refusal ≡ o .refusal
-unfolding commitChangesOf
-refusal-of-changes o c e = ap (λ (y : CommitChanges). y .refusal) e
+-- what holds of a commit's changes, and of its refusal, from the outcome that they make with the record handed in
+pub number-of-commit : (r : DeviceRecord) (c : CommitChanges) (o : DeviceOutcome) → commitOutcomeFrom r (CommitAnswer.Changes c) ≡ o → 0 ≡ o .refusal
+unfolding commitOutcomeFrom
+number-of-commit r c o e = ap (λ (p : DeviceOutcome). p .refusal) e
 
-pub device-of-commit-changes : (r : DeviceRecord) (x : List Float) (c : CommitChanges) → c ≡ commitChangesOf (commitCall r x) → advancedRecord r c ≡ commitCall r x .device
-device-of-commit-changes r x c e = ap (advancedRecord r) e ∙ ap (λ (o : DeviceOutcome). o .device) (commit-from-changes r x)
+pub device-of-commit : (r : DeviceRecord) (c : CommitChanges) (o : DeviceOutcome) → commitOutcomeFrom r (CommitAnswer.Changes c) ≡ o → advancedRecord r c ≡ o .device
+unfolding commitOutcomeFrom
+device-of-commit r c o e = ap (λ (p : DeviceOutcome). p .device) e
+
+pub number-of-refused-commit : (r : DeviceRecord) (n : ℕ) (o : DeviceOutcome) → commitOutcomeFrom r (CommitAnswer.Refusal n) ≡ o → n ≡ o .refusal
+unfolding commitOutcomeFrom
+number-of-refused-commit r n o e = ap (λ (p : DeviceOutcome). p .refusal) e
+
+pub device-of-refused-commit : (r : DeviceRecord) (n : ℕ) (o : DeviceOutcome) → commitOutcomeFrom r (CommitAnswer.Refusal n) ≡ o → r ≡ o .device
+unfolding commitOutcomeFrom
+device-of-refused-commit r n o e = ap (λ (p : DeviceOutcome). p .device) e

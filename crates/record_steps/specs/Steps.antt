@@ -28,6 +28,8 @@ use Rattle.record_steps.specs.declared.EvaluationChanges.{EvaluationChan
 use Rattle.record_steps.specs.declared.ChangesOrRefusal.{ChangesOrRefusal}
 use Rattle.record_steps.specs.declared.ChangesOrRefusal.the-variants.{Changes, Refusal}
 use Rattle.record_steps.specs.declared.CommitChanges.{CommitChanges}
+use Rattle.record_steps.specs.declared.CommitAnswer.{CommitAnswer}
+use Rattle.record_steps.specs.declared.CommitAnswer.the-variants as CommitAnswer
 
 unfoldable pub goodConditions : ConditionsRecord → Bool
 goodConditions k = leb (k .limiter) 1 && leb (k .transient) 1 && leb (k .method .tag) 3
@@ -46,13 +48,11 @@ answerRecord a =
     record { vgs = a .vgs; vds = a .vds; vth = a .vth; ids = a .ids; gm = a .gm; gds = a .gds; gmbs = a .gmbs }
 
 -- a refusal carries its number; the answer is zeros, the device the one handed in
+unfoldable pub refusedReply : ℕ → EvaluationReply
+refusedReply n = record { refusal = n; answer = record { vgs = +0; vds = +0; vth = +0; ids = +0; gm = +0; gds = +0; gmbs = +0 } }
+
 unfoldable pub refusedEvaluation : DeviceRecord → ℕ → EvaluationOutcome
-refusedEvaluation r n =
-    record {
-      refusal = n;
-      answer = record { vgs = +0; vds = +0; vth = +0; ids = +0; gm = +0; gds = +0; gmbs = +0 };
-      device = r;
-    }
+refusedEvaluation r n = record { refusal = n; answer = refusedReply n .answer; device = r }
 
 -- the record after an evaluation that leaves the device d
 unfoldable pub evaluatedRecord : DeviceRecord → Mosfet1 → DeviceRecord
@@ -107,6 +107,27 @@ unfoldable pub outcomeFrom : DeviceRecord → ChangesOrRefusal → EvaluationOut
 outcomeFrom r (Changes c) = record { refusal = c .reply .refusal; answer = c .reply .answer; device = changedRecord r c }
 outcomeFrom r (Refusal y) = record { refusal = y .refusal; answer = y .answer; device = r }
 
+-- what an evaluation gives to be stored: the reply with the parts that it changes, or, where it is refused, the reply alone
+unfoldable pub evaluatedChanges : Evaluated → EvaluationChanges
+evaluatedChanges e =
+    record {
+      reply = record { refusal = 0; answer = answerRecord (e .answer) };
+      point = pointRecord (e .device .point);
+      charges = chargesRecord (e .device .charges);
+      method = methodRecord (e .device .disc);
+      stage = stageTag (e .device .stage);
+    }
+
+unfoldable pub evaluationGiven : Evaluation → ChangesOrRefusal
+evaluationGiven (Evaluation.Done e) = Changes (evaluatedChanges e)
+evaluationGiven (Evaluation.Refused n) = Refusal (refusedReply n)
+
+unfoldable pub evaluateOf : DeviceRecord → List Float → ConditionsRecord → ChangesOrRefusal
+evaluateOf r x k =
+    cond (goodTags r)
+    (cond (goodConditions k) (evaluationGiven (evalOf (deviceFrom r) x (eqb (k .transient) 1) (conditionsFrom k))) (Refusal (refusedReply 100)))
+    (Refusal (refusedReply 100))
+
 -- the record after a commit that leaves the device d
 unfoldable pub committedRecord : DeviceRecord → Mosfet1 → DeviceRecord
 committedRecord r d =
@@ -129,10 +150,7 @@ commitOutcome r (Commit.Refused n) = record { refusal = n; device = r }
 unfoldable pub commitCall : DeviceRecord → List Float → DeviceOutcome
 commitCall r x = cond (goodTags r) (commitOutcome r (commitOf (deviceFrom r) x)) (record { refusal = 100; device = r })
 
--- the number of the refusal, and the parts of the record that a commit may change
-unfoldable pub commitChangesOf : DeviceOutcome → CommitChanges
-commitChangesOf o = record { refusal = o .refusal; point = o .device .point; histories = o .device .histories }
-
+-- the record with a commit's changes
 unfoldable pub advancedRecord : DeviceRecord → CommitChanges → DeviceRecord
 advancedRecord r c =
     record {
@@ -146,6 +164,19 @@ advancedRecord r c =
       method = r .method;
       stage = r .stage;
     }
+
+-- what a commit gives to be stored: the parts that it changes, or, where it is refused, the number alone
+unfoldable pub commitGiven : Commit → CommitAnswer
+commitGiven (Commit.Done e) = CommitAnswer.Changes (record { point = pointRecord (e .point); histories = historiesRecord (e .histories) })
+commitGiven (Commit.Refused n) = CommitAnswer.Refusal n
+
+unfoldable pub commitRecordOf : DeviceRecord → List Float → CommitAnswer
+commitRecordOf r x = cond (goodTags r) (commitGiven (commitOf (deviceFrom r) x)) (CommitAnswer.Refusal 100)
+
+-- the outcome of a call, from the record handed in and what the call gives to be stored
+unfoldable pub commitOutcomeFrom : DeviceRecord → CommitAnswer → DeviceOutcome
+commitOutcomeFrom r (CommitAnswer.Changes c) = record { refusal = 0; device = advancedRecord r c }
+commitOutcomeFrom r (CommitAnswer.Refusal n) = record { refusal = n; device = r }
 
 -- ---- the model's device after a call: the one handed in where it is refused
 

@@ -11,8 +11,8 @@ use record::MethodRecord;
 use record::PointRecord;
 use temperature::Kelvin;
 ghost use mathlib.Core.Path.{_≡_};
-ghost use Rattle.record_steps.specs.Steps.{goodConditions, conditionsFrom, answerRecord, refusedEvaluation, evaluatedOutcome, evaluationOutcome, evalCall, outcomeFrom, commitOutcome, commitCall, commitChangesOf};
-ghost use Rattle.record.specs.declared.DeviceRecord.{DeviceRecord};
+ghost use Rattle.record_steps.specs.Steps.{goodConditions, conditionsFrom, answerRecord, refusedReply, evaluatedChanges, evaluationGiven, evaluateOf, commitGiven, commitRecordOf};
+ghost use Rattle.record_steps.specs.declared.ChangesOrRefusal.the-variants.{Changes};
 
 // What an evaluation is handed besides the voltages. The limiter and the transient flag are 0 or 1.
 #[repr(C)]
@@ -66,11 +66,16 @@ pub enum ChangesOrRefusal {
     Refusal(EvaluationReply),
 }
 
-// The number of the refusal, and the parts of the record that a commit may change.
+// The parts of the record that an accepted commit changes.
 pub struct CommitChanges {
-    pub refusal: u64,
     pub point: PointRecord,
     pub histories: HistoriesRecord,
+}
+
+// A refused commit changes no part of the record either: there is its number alone.
+pub enum CommitAnswer {
+    Changes(CommitChanges),
+    Refusal(u64),
 }
 
 fn good_conditions(k: ConditionsRecord) -> bool
@@ -112,11 +117,11 @@ fn answer_record(a: Answer) -> AnswerRecord
     }
 }
 
-// What is answered and what changes is the same for every record that stands for the device: none is handed in here.
-fn refused_evaluation(n: u64) -> ChangesOrRefusal
-    ensures { λ c. ⌜ ((r : DeviceRecord) → outcomeFrom r c ≡ refusedEvaluation r n) ⌝ }
+// A refusal answers zeros.
+fn refused_reply(n: u64) -> EvaluationReply
+    ensures { λ y. ⌜ y ≡ refusedReply n ⌝ }
 {
-    ChangesOrRefusal::Refusal(EvaluationReply {
+    EvaluationReply {
         refusal: n,
         answer: AnswerRecord {
             vgs: 0.0,
@@ -127,11 +132,12 @@ fn refused_evaluation(n: u64) -> ChangesOrRefusal
             gds: 0.0,
             gmbs: 0.0,
         },
-    })
+    }
 }
 
+// What changes is the same for every record that stands for the device: none is handed in here.
 fn accepted_evaluation(e: Evaluated) -> ChangesOrRefusal
-    ensures { λ c. ⌜ ((r : DeviceRecord) → outcomeFrom r c ≡ evaluatedOutcome r e) ⌝ }
+    ensures { λ c. ⌜ c ≡ Changes (evaluatedChanges e) ⌝ }
 {
     let a = e.answer;
     let d = e.device;
@@ -139,11 +145,12 @@ fn accepted_evaluation(e: Evaluated) -> ChangesOrRefusal
     let charges = d.charges;
     let disc = d.disc;
     let stage = d.stage;
+    let reply = EvaluationReply {
+        refusal: 0,
+        answer: answer_record(a),
+    };
     let changes = EvaluationChanges {
-        reply: EvaluationReply {
-            refusal: 0,
-            answer: answer_record(a),
-        },
+        reply,
         point: record::point_record(point),
         charges: record::charges_record(charges),
         method: record::method_record(disc),
@@ -153,23 +160,23 @@ fn accepted_evaluation(e: Evaluated) -> ChangesOrRefusal
 }
 
 fn evaluation_changes(a: Evaluation) -> ChangesOrRefusal
-    ensures { λ c. ⌜ ((r : DeviceRecord) → outcomeFrom r c ≡ evaluationOutcome r a) ⌝ }
+    ensures { λ c. ⌜ c ≡ evaluationGiven a ⌝ }
 {
     match a {
         Evaluation::Done(e) => accepted_evaluation(e),
-        Evaluation::Refused(n) => refused_evaluation(record::wide(n)),
+        Evaluation::Refused(n) => ChangesOrRefusal::Refusal(refused_reply(record::wide(n))),
     }
 }
 
 // `eval` of the device that the record stands for: the answer, and what of the record changes.
 pub fn evaluate(r: DeviceRecord, x: &[f64], k: ConditionsRecord) -> ChangesOrRefusal
-    ensures { λ c. ⌜ outcomeFrom r c ≡ evalCall r (now (x .entry)) k ⌝ }
+    ensures { λ c. ⌜ c ≡ evaluateOf r (now (x .entry)) k ⌝ }
 {
     if !from_record::good_tags(r) {
-        return refused_evaluation(100);
+        return ChangesOrRefusal::Refusal(refused_reply(100));
     }
     if !good_conditions(k) {
-        return refused_evaluation(100);
+        return ChangesOrRefusal::Refusal(refused_reply(100));
     }
     let d = from_record::device_from(r);
     let conditions = conditions_from(k);
@@ -178,43 +185,31 @@ pub fn evaluate(r: DeviceRecord, x: &[f64], k: ConditionsRecord) -> ChangesOrRef
     evaluation_changes(a)
 }
 
-fn refused_commit(r: DeviceRecord, n: u64) -> CommitChanges
-    ensures { λ c. ⌜ c ≡ commitChangesOf (record { refusal = n; device = r }) ⌝ }
-{
-    let point = r.point;
-    let histories = r.histories;
-    CommitChanges {
-        refusal: n,
-        point,
-        histories,
-    }
-}
-
-fn commit_changes(r: DeviceRecord, a: Commit) -> CommitChanges
-    ensures { λ c. ⌜ c ≡ commitChangesOf (commitOutcome r a) ⌝ }
+fn commit_changes(a: Commit) -> CommitAnswer
+    ensures { λ c. ⌜ c ≡ commitGiven a ⌝ }
 {
     match a {
         Commit::Done(e) => {
             let point = e.point;
             let histories = e.histories;
-            CommitChanges {
-                refusal: 0,
+            let changes = CommitChanges {
                 point: record::point_record(point),
                 histories: record::histories_record(histories),
-            }
+            };
+            CommitAnswer::Changes(changes)
         }
-        Commit::Refused(n) => refused_commit(r, record::wide(n)),
+        Commit::Refused(n) => CommitAnswer::Refusal(record::wide(n)),
     }
 }
 
 // `commit_timestep` of the device that the record stands for: what of the record changes.
-pub fn commit(r: DeviceRecord, x: &[f64]) -> CommitChanges
-    ensures { λ c. ⌜ c ≡ commitChangesOf (commitCall r (now (x .entry))) ⌝ }
+pub fn commit(r: DeviceRecord, x: &[f64]) -> CommitAnswer
+    ensures { λ c. ⌜ c ≡ commitRecordOf r (now (x .entry)) ⌝ }
 {
     if !from_record::good_tags(r) {
-        return refused_commit(r, 100);
+        return CommitAnswer::Refusal(100);
     }
     let d = from_record::device_from(r);
     let a = model::calls::commit_timestep(d, x);
-    commit_changes(r, a)
+    commit_changes(a)
 }

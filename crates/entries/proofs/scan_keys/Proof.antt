@@ -7,7 +7,7 @@ use native.Mathlib.Omega.{arith}
 use borrow.Author.Needs.{needs}
 use lib.ListN.{length}
 use Rattle.keys.specs.Names.{meaningOf}
-use Rattle.entries.specs.Entries.{beyondAscii, anyBeyondAscii, unknownCount, anyOutside, anyTnomOutside, scanOf}
+use Rattle.entries.specs.Entries.{beyondAscii, anyBeyondAscii, unknownFrom, unknownCount, anyOutside, anyTnomOutside, scanOf}
 use Rattle.entries.specs.declared.Scan.{Scan}
 use Rattle.entries.proofs.Entries.{Paired, paired, rest, entry-end, count-rest, scan-step}
 use Rattle.entries.proofs.scan_keys.Statement.{statement}
@@ -20,7 +20,7 @@ abbrev μ-loop : tie.MeasureT-loop
 μ-loop table bytes offsets lengths values s₀ i₀ s i = i
 
 loop-holds : tie.Need-loop-holds Inv-loop μ-loop
-unfolding anyBeyondAscii unknownCount anyOutside anyTnomOutside
+unfolding anyBeyondAscii unknownFrom unknownCount anyOutside anyTnomOutside
 loop-holds c = let a = c .before .before .before .before .args in (omega arith, sym (ap (scanOf (a .table)) (entry-end (a .bytes .now) (a .offsets .now) (a .lengths .now) (a .values .now) (length (a .offsets .now)) (le-refl _))))
 
 sub-i : tie.Need-sub-i Inv-loop μ-loop

@@ -52,8 +52,8 @@ use Rattle.record_steps.specs.declared.ChangesOrRefusal.the-variants.{Changes, 
 use Rattle.record_steps.specs.declared.EvaluationChanges.{EvaluationChanges}
 use Rattle.record_steps.specs.declared.EvaluationReply.{EvaluationReply}
 use Rattle.record_steps.specs.declared.EvaluationOutcome.{EvaluationOutcome}
-use Rattle.record_steps.specs.Steps.{evalCall, outcomeFrom, changedRecord, replyOf}
-use Rattle.record_steps.proofs.Changes.{reply-of-changes, device-of-changes, reply-of-refusal, device-of-refusal}
+use Rattle.record_steps.specs.Steps.{evalCall, evaluateOf, outcomeFrom, changedRecord, replyOf}
+use Rattle.record_steps.proofs.Changes.{evaluation-outcome, reply-of-changes, device-of-changes, reply-of-refusal, device-of-refusal}
 use Rattle.record.proofs.DeviceRecord as T
 use Rattle.record.proofs.DeviceRecord.Laws as T′
 use Rattle.record.proofs.PointRecord as P
@@ -174,8 +174,8 @@ module _ {M : Type 1} (𝓤 : URA M) (H : Heap 𝓤) (A : Atoms 𝓤) (W : Given
       move ! (0 ∷ 2 ∷ []) $ fjoin ! $ move ! (2 ∷ 0 ∷ []) $ fjoin ! $ move ! (2 ∷ 0 ∷ []) $
       use2 W (raw (Callee 𝓤 H A at-mem run .pre to)) (qed W ((‵ (flft κ′ q′) ⊛ ‵ ftrue) ∷ ‵ (owns (T.the-row ∷ ShrSlice (named 0) κ′ f64 ∷ K.the-row ∷ []) (h, (s, (k, tt))) (dev h, (v ∷ [], (con k, tt)))) ∷ []) ∵ join ! $ frame ! $ done !) $ frame ! $ done !
 
-  said : (c : ChangesOrRefusal) → ent 𝓤 (ensured 𝓤 H A evaluate.ended (evaluate.clauses 𝓤 H A at-mem run) (κ′, tt) (h, (s, (k, tt))) tt c) (fact 𝓤 (outcomeFrom h c ≡ found))
-  said c = exE 𝓤 _ (λ ws. snd∗ 𝓤 (sem 𝓤 H A (lasts evaluate.ended (κ′, tt) (h, (s, (k, tt))) ws)) (fact 𝓤 (outcomeFrom h c ≡ found)))
+  said : (c : ChangesOrRefusal) → ent 𝓤 (ensured 𝓤 H A evaluate.ended (evaluate.clauses 𝓤 H A at-mem run) (κ′, tt) (h, (s, (k, tt))) tt c) (fact 𝓤 (c ≡ evaluateOf h (s .now) k))
+  said c = exE 𝓤 _ (λ ws. snd∗ 𝓤 (sem 𝓤 H A (lasts evaluate.ended (κ′, tt) (h, (s, (k, tt))) ws)) (fact 𝓤 (c ≡ evaluateOf h (s .now) k)))
 
   -- the record n and the reply y are what the call leaves and answers
   exits : (n : DeviceRecord) (y : EvaluationReply) → y ≡ replyOf found → n ≡ found .device → Is R.the-row y (rep y ∷ []) → Is K.the-row k (con k)
@@ -253,10 +253,10 @@ module _ {M : Type 1} (𝓤 : URA M) (H : Heap 𝓤) (A : Atoms 𝓤) (W : Given
     called fm known body z then =
         calls-at ! fm (Callee 𝓤 H A at-mem run) known to (and-then ! (load ! (from ! (stop !)) (look ! 14 refl)) (and-then ! (load ! (from ! (stop !)) (look ! 18 refl)) (and-then ! (load ! (from ! (stop !)) (look ! 16 refl)) (no-more !)))) (λ u.
         use1 W (later (some (λ (c : ChangesOrRefusal). ((‵ (flft κ′ q′) ⊛ ‵ ftrue) ⊛ ‵ (Z.the-row .own c (u ∷ []))) ⊛ raw (ensured 𝓤 H A evaluate.ended (evaluate.clauses 𝓤 H A at-mem run) (κ′, tt) (h, (s, (k, tt))) tt c)))) (id⊢ 𝓤 _) $ await ! tt $ forget ! 14 refl $ forget ! 16 refl $ forget ! 18 refl $
-        pick ! (λ c. split ! $ move ! (1 ∷ []) $ use1 W (raw (fact 𝓤 (outcomeFrom h c ≡ found))) (said c) $ heard ! (outcomeFrom h c ≡ found) (λ e. split ! $ move ! (1 ∷ []) $
+        pick ! (λ c. split ! $ move ! (1 ∷ []) $ use1 W (raw (fact 𝓤 (c ≡ evaluateOf h (s .now) k))) (said c) $ heard ! (c ≡ evaluateOf h (s .now) k) (λ e. split ! $ move ! (1 ∷ []) $
         peeks ! Z.the-row (Is Z.the-row) (shows 𝓤 H A Z.the-row) c (u ∷ []) (λ is. drop ! $
         land ! (from ! (stop !)) (init ! 8 refl (EL.lawful Z.the-type Z′.the-laws 𝓤 H A W tt .typed c _ is .0)) $
-        rewrite ! 8 (λ (w : Val). ‵ (fat fullShare Z′.mir l₇ 0 w)) (ap only (EL.tells Z.the-type Z′.the-laws c _ is)) refl $ then c u e is))))
+        rewrite ! 8 (λ (w : Val). ‵ (fat fullShare Z′.mir l₇ 0 w)) (ap only (EL.tells Z.the-type Z′.the-laws c _ is)) refl $ then c u (evaluation-outcome h (s .now) k c e) is))))
 
   module _ (C : Calls 𝓤 H) (Λ : Loops 𝓤 H) (fm : FmC 𝓤 H (W .laws) C) (known : Triple 𝓤 (C #record-steps·evaluate) (Callee 𝓤 H A at-mem run)) where
     walk : Is (ShrSlice (named 1) κ′ f64) s (v ∷ []) → Is K.the-row k (con k) → ent 𝓤 (onEntry 𝓤 H A fn.signature (κ, (κ′, tt)) (q, (q′, tt)) a vals) (WpFn 𝓤 H C Λ code.function (vptr b o ∷ v ∷ con k) Post)

@@ -7,15 +7,22 @@ use lib.Seq.{slice}
 use denote.Ref.{now}
 use Rattle.pattern.specs.Pattern.{placeIn, cellOf}
 use Rattle.pattern.specs.declared.Found.the-variants.{At}
-use Rattle.pattern.proofs.Spans.{cell-in-span}
+use Rattle.pattern.proofs.Spans.{Part, part-known, cell-in-span, guess-right}
 use Rattle.pattern.proofs.cell.Statement.{statement}
 use Rattle.pattern.proofs.cell.Tie as tie
+
+-- the cell's place is its column's in the row's part, seen from where the part is known
+abbrev start : tie.After-row-span → tie.Start
+start c = c .before .before .before .before
+
+part : (c : tie.After-row-span) → Part (now (start c .args .columns)) (c .row-span .result .from) (c .row-span .result .len)
+part c = part-known _ _ _ (start c .pre) _ _ (c .row-span .ensures)
 
 row-span-requires : tie.Need-row-span-requires
 row-span-requires c κs = search needs
 
 guess-requires : tie.Need-guess-requires
-guess-requires c κs = search needs
+guess-requires c κs = (part c .within, part c .rises)
 
 enum-known-p : tie.Need-enum-known-p
 enum-known-p c = search needs
@@ -24,23 +31,20 @@ enum-told : tie.Need-enum-told
 enum-told c = search needs
 
 add-search : tie.Need-add-search
-add-search c = search needs
+add-search c = omega (arith, part (c .before .before .before) .within, start (c .before .before .before) .good .0 .1)
 
 search-requires : tie.Need-search-requires
-search-requires c κs = search needs
-
--- the cell's place is its column's in the row's part, seen from where the part is known
-abbrev start : tie.After-row-span → tie.Start
-start c = c .before .before .before .before
+search-requires c κs = (omega arith, (part (c .before .before .before) .within, part (c .before .before .before) .rises))
 
 in-span : (c : tie.After-row-span) → placeIn (c .row-span .result .from) (slice (c .row-span .result .from) (c .row-span .result .from + c .row-span .result .len) (now (start c .args .columns))) (start c .args .column)
     ≡ cellOf (now (start c .args .columns)) (now (start c .args .offsets)) (now (start c .args .lengths)) (start c .args .row) (start c .args .column)
-in-span c = cell-in-span _ _ _ _ _ _ _ (c .row-span .ensures)
+in-span c = cell-in-span _ _ _ _ _ _ (c .row-span .ensures)
 
 returns : tie.Need-returns
 returns c =
+    let r = c .before .before .before .before in
     let e : c .before .before .before .guess .result ≡ At (c .before .p .given .0 .0) = c .before .p .given .1 in
-    sym (c .before .before .before .guess .ensures .right _ e) ∙ in-span (c .before .before .before .before)
+    sym (guess-right _ _ _ _ _ _ (part r .within) (part r .rises) (sym (c .before .before .before .guess .ensures) ∙ e) .right) ∙ in-span r
 
 returns-2 : tie.Need-returns-2
 returns-2 c = c .search .ensures ∙ in-span (c .before .before .before .before)

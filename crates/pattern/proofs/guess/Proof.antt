@@ -1,19 +1,25 @@
--- `pattern::guess`: a column that stands at the guessed place stands there alone.
+-- `pattern::guess`: the wrapped difference is the distance, and each return is one outcome of the guess.
 use mathlib.Core.Path.{_≡_, sym, _∙_}
-use Prim.Native.Nat.{ℕ, _+_}
 use native.Mathlib.Omega.{arith}
 use borrow.Author.Needs.{needs}
-use lib.ListN.{getD}
 use denote.Ref.{now}
-use Rattle.pattern.proofs.Spans.{no-guess, good-guess}
+use Rattle.pattern.specs.Pattern.{distance}
+use Rattle.pattern.proofs.Spans.{distance-is, guess-outside, guess-here, guess-elsewhere}
 use Rattle.pattern.proofs.guess.Statement.{statement}
 use Rattle.pattern.proofs.guess.Tie as tie
+
+-- what the subtraction answers, seen from behind it
+abbrev start : tie.After-wrapping-sub-usize → tie.Start
+start c = c .before .before
+
+ahead : (c : tie.After-wrapping-sub-usize) → c .wrapping-sub-usize .result ≡ distance (start c .args .first) (start c .args .column)
+ahead c = distance-is _ _ _ (start c .fits .first .fits) (start c .fits .column .fits) (c .wrapping-sub-usize .ok) (c .wrapping-sub-usize .ensures)
 
 wrapping-sub-usize-requires : tie.Need-wrapping-sub-usize-requires
 wrapping-sub-usize-requires c κs = search needs
 
 returns : tie.Need-returns
-returns c = no-guess _ _ _
+returns c = guess-outside _ _ _ _ _ _ (ahead (c .before)) (c .if1 .taken)
 
 add-at : tie.Need-add-at
 add-at c = search needs
@@ -28,15 +34,10 @@ wide-requires : tie.Need-wide-requires
 wide-requires c κs = search needs
 
 returns-2 : tie.Need-returns-2
-returns-2 c =
-    let s = c .before .before .before .before .before .before in
-    let k = s .args .from + c .before .before .before .before .wrapping-sub-usize .result in
-    let e : getD (now (s .args .columns)) k 0 ≡ s .args .column = sym (c .before .wide .ensures) ∙ c .if2 .taken in
-    good-guess (now (s .args .columns)) (s .args .from) (s .args .len) (s .args .column) k (s .pre .0) (s .pre .1) (omega arith) (omega arith) e
-    (omega (arith, e, c .before .before .shared-slice-known2 .given k))
+returns-2 c = guess-here _ _ _ _ _ _ (ahead (c .before .before .before .before)) (omega arith) (sym (c .before .wide .ensures) ∙ c .if2 .taken)
 
 returns-3 : tie.Need-returns-3
-returns-3 c = no-guess _ _ _
+returns-3 c = guess-elsewhere _ _ _ _ _ _ (ahead (c .before .before .before .before)) (omega arith) (λ e. c .if2 .left (c .before .wide .ensures ∙ e))
 
 pub guess-spec : {M : Type 1} → statement M
 guess-spec =

@@ -1,10 +1,9 @@
 -- `pattern::row_span`: the pair at the row's index lies within the columns, since the whole pattern is well formed.
 use native.Mathlib.Omega.{arith}
 use borrow.Author.Needs.{needs}
-use lib.ListN.{getD}
 use denote.Ref.{now}
-use Rattle.pattern.specs.Pattern.{SpanOf}
-use Rattle.pattern.proofs.Spans.{counts, span-outside, span-inside}
+use Rattle.pattern.proofs.Rows.{Row}
+use Rattle.pattern.proofs.Spans.{counts, row-known, span-outside, span-some, span-empty}
 use Rattle.pattern.proofs.row_span.Statement.{statement}
 use Rattle.pattern.proofs.row_span.Tie as tie
 
@@ -12,8 +11,8 @@ use Rattle.pattern.proofs.row_span.Tie as tie
 abbrev start : tie.Else1 → tie.Start
 start c = c .before .before .before .before
 
-span : (c : tie.Else1) → SpanOf (now (start c .args .columns)) (now (start c .args .offsets)) (now (start c .args .lengths)) (start c .args .row) (getD (now (start c .args .offsets)) (start c .args .row) 0) (getD (now (start c .args .lengths)) (start c .args .row) 0)
-span c = span-inside (now (start c .args .columns)) (now (start c .args .offsets)) (now (start c .args .lengths)) (start c .pre) (start c .args .row) (c .if1 .left)
+row : (c : tie.Else1) → Row (now (start c .args .columns)) (now (start c .args .offsets)) (now (start c .args .lengths)) (start c .args .row)
+row c = row-known (now (start c .args .columns)) (now (start c .args .offsets)) (now (start c .args .lengths)) (start c .pre) (start c .args .row) (c .if1 .left)
 
 returns : tie.Need-returns
 returns c =
@@ -35,21 +34,21 @@ shared-slice-read-len c =
     omega (arith, c .before .before .if1 .left, counts (now (s .args .columns)) (now (s .args .offsets)) (now (s .args .lengths)) (s .pre) (s .args .row))
 
 returns-2 : tie.Need-returns-2
-returns-2 c = span (c .before .before .before)
+returns-2 c = span-empty _ _ _ _ (c .if2 .taken)
 
 mul-wide : tie.Need-mul-wide
 mul-wide c =
     let l = c .before .before .before in
-    omega (arith, span l .within, start l .good .0 .1)
+    omega (arith, row l .within, start l .good .0 .1)
 
 shared-slice-read-wide : tie.Need-shared-slice-read-wide
-shared-slice-read-wide c = omega (arith, span (c .before .before .before .before) .within, c .before .if2 .left)
+shared-slice-read-wide c = omega (arith, row (c .before .before .before .before) .within, c .before .if2 .left)
 
 wide-requires : tie.Need-wide-requires
 wide-requires c κs = search needs
 
 returns-3 : tie.Need-returns-3
-returns-3 c = span (c .before .before .before .before .before)
+returns-3 c = span-some _ _ _ _ _ (c .before .before .if2 .left) (c .wide .ensures)
 
 pub row-span-spec : {M : Type 1} → statement M
 row-span-spec =

@@ -1,4 +1,5 @@
 -- `places::place`: a guess that names a place is right.
+use mathlib.Core.Path.{sym, _∙_}
 use denote.Ref.{now}
 use Rattle.places.proofs.Spans.{number-guessed}
 use borrow.Author.Needs.{needs}
@@ -20,7 +21,7 @@ searched-requires c κs = search needs
 returns : tie.Need-returns
 returns c =
     let s = c .before .before .before .before .before in
-    number-guessed (now (s .args .columns)) (s .args .row) (s .args .span .from) (s .args .span .len) (s .args .column) (s .pre) _ (c .before .before .before .guess .ensures) _ (c .before .p .given .1)
+    number-guessed (now (s .args .columns)) (s .args .row) (s .args .span .from) (s .args .span .len) (s .args .column) (s .pre) (λ k. c .before .before .before .before .shared-slice-known .given k .fits) (s .args .span .first) _ (sym (c .before .before .before .guess .ensures) ∙ c .before .p .given .1)
 
 returns-2 : tie.Need-returns-2
 returns-2 c = search needs

@@ -1,7 +1,7 @@
 -- `record_steps::commit` meets its contract.
 -- Assumes nothing.
 use borrow.Author.Tests.{not-true, not-false}
-use Rattle.record_steps.specs.Steps.{commitCall}
+use Rattle.record_steps.specs.Steps.{commitRecordOf}
 use borrow.Author.Needs.{needs}
 use Rattle.record_steps.proofs.commit.Statement.{statement}
 use Rattle.record_steps.proofs.commit.Tie as tie
@@ -9,12 +9,9 @@ use Rattle.record_steps.proofs.commit.Tie as tie
 good-tags-requires : tie.Need-good-tags-requires
 good-tags-requires c κs = search needs
 
-refused-commit-requires : tie.Need-refused-commit-requires
-refused-commit-requires c κs = search needs
-
 returns : tie.Need-returns
-unfolding commitCall
-returns c = rw (c .refused-commit .ensures, ← c .before .before .good-tags .ensures, not-true (c .before .before .good-tags .result) (c .before .if1 .taken))
+unfolding commitRecordOf
+returns c = rw (← c .before .good-tags .ensures, not-true (c .before .good-tags .result) (c .if1 .taken))
 
 device-from-requires : tie.Need-device-from-requires
 device-from-requires c κs = search needs
@@ -26,8 +23,8 @@ commit-changes-requires : tie.Need-commit-changes-requires
 commit-changes-requires c κs = search needs
 
 returns-2 : tie.Need-returns-2
-unfolding commitCall
+unfolding commitRecordOf
 returns-2 c = rw (c .commit-changes .ensures, c .before .commit-timestep .ensures, c .before .before .device-from .ensures, ← c .before .before .before .before .good-tags .ensures, not-false (c .before .before .before .before .good-tags .result) (c .before .before .before .if1 .left))
 
 pub commit-spec : {M : Type 1} → statement M
-commit-spec = tie.close (tie.spec good-tags-requires refused-commit-requires returns device-from-requires commit-timestep-requires commit-changes-requires returns-2)
+commit-spec = tie.close (tie.spec good-tags-requires returns device-from-requires commit-timestep-requires commit-changes-requires returns-2)

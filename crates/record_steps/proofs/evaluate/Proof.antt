@@ -1,7 +1,7 @@
 -- `record_steps::evaluate` meets its contract.
 -- Assumes nothing.
 use borrow.Author.Tests.{not-true, not-false}
-use Rattle.record_steps.specs.Steps.{evalCall}
+use Rattle.record_steps.specs.Steps.{evaluateOf}
 use borrow.Author.Needs.{needs}
 use Rattle.record_steps.proofs.evaluate.Statement.{statement}
 use Rattle.record_steps.proofs.evaluate.Tie as tie
@@ -9,22 +9,22 @@ use Rattle.record_steps.proofs.evaluate.Tie as tie
 good-tags-requires : tie.Need-good-tags-requires
 good-tags-requires c κs = search needs
 
-refused-evaluation-requires : tie.Need-refused-evaluation-requires
-refused-evaluation-requires c κs = search needs
+refused-reply-requires : tie.Need-refused-reply-requires
+refused-reply-requires c κs = search needs
 
 returns : tie.Need-returns
-unfolding evalCall
-returns c = rw (c .refused-evaluation .ensures _, ← c .before .before .good-tags .ensures, not-true (c .before .before .good-tags .result) (c .before .if1 .taken))
+unfolding evaluateOf
+returns c = rw (c .refused-reply .ensures, ← c .before .before .good-tags .ensures, not-true (c .before .before .good-tags .result) (c .before .if1 .taken))
 
 good-conditions-requires : tie.Need-good-conditions-requires
 good-conditions-requires c κs = search needs
 
-refused-evaluation-requires-2 : tie.Need-refused-evaluation-requires-2
-refused-evaluation-requires-2 c κs = search needs
+refused-reply-requires-2 : tie.Need-refused-reply-requires-2
+refused-reply-requires-2 c κs = search needs
 
 returns-2 : tie.Need-returns-2
-unfolding evalCall
-returns-2 c = rw (c .refused-evaluation2 .ensures _, ← c .before .before .before .before .good-tags .ensures, not-false (c .before .before .before .before .good-tags .result) (c .before .before .before .if1 .left), ← c .before .before .good-conditions .ensures, not-true (c .before .before .good-conditions .result) (c .before .if2 .taken))
+unfolding evaluateOf
+returns-2 c = rw (c .refused-reply2 .ensures, ← c .before .before .before .before .good-tags .ensures, not-false (c .before .before .before .before .good-tags .result) (c .before .before .before .if1 .left), ← c .before .before .good-conditions .ensures, not-true (c .before .before .good-conditions .result) (c .before .if2 .taken))
 
 device-from-requires : tie.Need-device-from-requires
 device-from-requires c κs = search needs
@@ -39,8 +39,8 @@ evaluation-changes-requires : tie.Need-evaluation-changes-requires
 evaluation-changes-requires c κs = search needs
 
 returns-3 : tie.Need-returns-3
-unfolding evalCall
-returns-3 c = rw (c .evaluation-changes .ensures _, c .before .eval .ensures, c .before .before .before .conditions-from .ensures, c .before .before .before .before .device-from .ensures, ← c .before .before .before .before .before .before .before .before .good-tags .ensures, not-false (c .before .before .before .before .before .before .before .before .good-tags .result) (c .before .before .before .before .before .before .before .if1 .left), ← c .before .before .before .before .before .before .good-conditions .ensures, not-false (c .before .before .before .before .before .before .good-conditions .result) (c .before .before .before .before .before .if2 .left))
+unfolding evaluateOf
+returns-3 c = rw (c .evaluation-changes .ensures, c .before .eval .ensures, c .before .before .before .conditions-from .ensures, c .before .before .before .before .device-from .ensures, ← c .before .before .before .before .before .before .before .before .good-tags .ensures, not-false (c .before .before .before .before .before .before .before .before .good-tags .result) (c .before .before .before .before .before .before .before .if1 .left), ← c .before .before .before .before .before .before .good-conditions .ensures, not-false (c .before .before .before .before .before .before .good-conditions .result) (c .before .before .before .before .before .if2 .left))
 
 pub evaluate-spec : {M : Type 1} → statement M
-evaluate-spec = tie.close (tie.spec good-tags-requires refused-evaluation-requires returns good-conditions-requires refused-evaluation-requires-2 returns-2 device-from-requires conditions-from-requires eval-requires evaluation-changes-requires returns-3)
+evaluate-spec = tie.close (tie.spec good-tags-requires refused-reply-requires returns good-conditions-requires refused-reply-requires-2 returns-2 device-from-requires conditions-from-requires eval-requires evaluation-changes-requires returns-3)
