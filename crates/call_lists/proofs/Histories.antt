@@ -13,6 +13,7 @@ use Rattle.device.specs.declared.Histories.{Histories}
 use Rattle.device.specs.declared.Mosfet1.{Mosfet1}
 use Rattle.reactive.specs.Charge.{recordedOf, hasStepOf, advanceOf}
 use Rattle.entries.specs.Entries.{Keyed}
+use Rattle.device.proofs.Rows.{unless-either}
 use Rattle.geometry.specs.Geometry.{geometryOf, geometryRows, geometryListOf}
 use Rattle.setup.specs.Scaling.{scalingOf, scalingRows}
 use Rattle.setup.specs.Binding.{bindingOf, bindingRows, boundTerminals}
@@ -25,7 +26,6 @@ use Rattle.accepted.proofs.Accepted.{card-accepted}
 use Rattle.call_lists.specs.Calls.{Call, geometry, scaling, binding, evaluation, loading, commit, noise, reactances, geometryAnswer, setupAnswer, evaluationAnswer, commitAnswer, answer, isDone, deviceLeft, accepted, after, run}
 use Rattle.call_lists.specs.F64.{Fresh}
 use Rattle.call_lists.specs.Recount.{nothingHeld, atFirst, currentOf, putIn, committedCharges, putAllIn, counted, recountFrom, recount}
-use Rattle.call_lists.proofs.Outcomes.{unless-either}
 
 -- ---- one commit
 

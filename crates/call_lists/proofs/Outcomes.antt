@@ -1,11 +1,11 @@
 -- What an accepted call leaves, and that a refused one leaves the device as it was.
 use Prim.Native.Nat.{ℕ}
 use mathlib.Core.Path.{_≡_, refl, sym, ap}
-use mathlib.Core.Bool.{Bool, true, false, false≢true}
-use mathlib.Core.List.{List, [], _∷_}
+use mathlib.Core.Bool.{Bool, false, false≢true}
+use mathlib.Core.List.{List}
 use lib.Ieee.{Float}
 use Rattle.temperature.specs.declared.Kelvin.{Kelvin}
-use Rattle.device.specs.Refusals.{Row, unless, Outcome, done, refused, _when_}
+use Rattle.device.specs.Refusals.{done, refused}
 use Rattle.device.specs.declared.Mosfet1.{Mosfet1}
 use Rattle.device.specs.declared.NodeId.{NodeId}
 use Rattle.device.proofs.Rows.{NoneOf, passed, none-applies, number-0}
@@ -55,18 +55,6 @@ unfolding after answer deviceLeft
 reactances-leave-the-device d = refl
 
 -- ---- a call with a list of rows
-
--- what holds of every refusal and of the accepted answer holds of the answer
-pub unless-either : {A : Type 0} (P : A → Type 0) (rows : List Row) (refuse : ℕ → A) (made : A) → ((n : ℕ) → P (refuse n)) → P made → P (unless rows refuse made)
-unless-either P [] refuse made no-change p = p
-unless-either P ((n when true) ∷ rows) refuse made no-change p = no-change n
-unless-either P ((n when false) ∷ rows) refuse made no-change p = unless-either P rows refuse made no-change p
-
--- the same of two answers under the same rows
-pub unless-both : {A : Type 0} (P : A → A → Type 0) (rows : List Row) (refuse : ℕ → A) (made other : A) → ((n : ℕ) → P (refuse n) (refuse n)) → P made other → P (unless rows refuse made) (unless rows refuse other)
-unless-both P [] refuse made other no-change p = p
-unless-both P ((n when true) ∷ rows) refuse made other no-change p = no-change n
-unless-both P ((n when false) ∷ rows) refuse made other no-change p = unless-both P rows refuse made other no-change p
 
 -- what an accepted call answers: no row applies, and the device is the definition's
 pub geometry-done : (d : Mosfet1) (bytes offsets lengths : List ℕ) (values : List Float) (space : ℕ) (k : Keyed) → geometryOf d bytes offsets lengths values space ≡ done k → NoneOf (geometryRows d bytes offsets lengths values space) × (k .device ≡ sizedTo d (sizesGiven d bytes offsets lengths values))

@@ -8,6 +8,7 @@ use Rattle.device.specs.Refusals.{Outcome, done, refused}
 use Rattle.device.specs.declared.Histories.{Histories}
 use Rattle.device.specs.declared.Mosfet1.{Mosfet1}
 use Rattle.entries.specs.Entries.{Keyed}
+use Rattle.device.proofs.Rows.{unless-both}
 use Rattle.geometry.specs.Geometry.{geometryOf, geometryRows, geometryListOf}
 use Rattle.setup.specs.Scaling.{scalingOf, scalingRows}
 use Rattle.setup.specs.Binding.{bindingOf, bindingRows, boundTerminals}
@@ -17,7 +18,6 @@ use Rattle.model.specs.Calls.{evalOf, commitOf}
 use Rattle.rows.specs.Rows.{voltagesOf, evalRows, commitRows}
 use Rattle.call_lists.specs.Calls.{Call, geometry, scaling, binding, evaluation, loading, commit, noise, reactances, geometryAnswer, setupAnswer, evaluationAnswer, commitAnswer, answer, isDone, deviceLeft, accepted, after}
 use Rattle.call_lists.specs.Recount.{atFirst, committedCharges, putAllIn, counted, recountFrom, recount, withHistories}
-use Rattle.call_lists.proofs.Outcomes.{unless-both}
 
 -- a device with its histories cleared
 cleared : Mosfet1 → Mosfet1

@@ -58,3 +58,15 @@ pub number-0 : (rows : List Row) → T (numbered rows) → rowNumber rows ≡ 0 
 number-0 [] t e = tt
 number-0 ((n when true) ∷ rows) t e = absurd (false≢true (sym (both (eqb n 0) (numbered rows) t .0) ∙ eq-eqb n 0 e))
 number-0 ((n when false) ∷ rows) t e = (refl, number-0 rows (both (eqb n 0) (numbered rows) t .1) e)
+
+-- what holds of every refusal and of the accepted answer holds of the answer
+pub unless-either : {A : Type 0} (P : A → Type 0) (rows : List Row) (refuse : ℕ → A) (made : A) → ((n : ℕ) → P (refuse n)) → P made → P (unless rows refuse made)
+unless-either P [] refuse made no-change p = p
+unless-either P ((n when true) ∷ rows) refuse made no-change p = no-change n
+unless-either P ((n when false) ∷ rows) refuse made no-change p = unless-either P rows refuse made no-change p
+
+-- the same of two answers under the same rows
+pub unless-both : {A : Type 0} (P : A → A → Type 0) (rows : List Row) (refuse : ℕ → A) (made other : A) → ((n : ℕ) → P (refuse n) (refuse n)) → P made other → P (unless rows refuse made) (unless rows refuse other)
+unless-both P [] refuse made other no-change p = p
+unless-both P ((n when true) ∷ rows) refuse made other no-change p = no-change n
+unless-both P ((n when false) ∷ rows) refuse made other no-change p = unless-both P rows refuse made other no-change p

@@ -6,11 +6,10 @@ use mathlib.Core.Bool.{Bool, true, false, cond}
 use mathlib.Core.List.{List}
 use lib.Dec.{eqb}
 use lib.Ieee.{Float}
+use Rattle.device.specs.Refusals.{Outcome, done, refused}
+use Rattle.device.specs.declared.Mosfet1.{Mosfet1}
+use Rattle.mosfet1.specs.declared.steps.Evaluated.{Evaluated}
 use Rattle.model.specs.Calls.{evalOf, commitOf}
-use Rattle.model.specs.declared.calls.Evaluation.{Evaluation}
-use Rattle.model.specs.declared.calls.Evaluation.the-variants as Evaluation
-use Rattle.model.specs.declared.calls.Commit.{Commit}
-use Rattle.model.specs.declared.calls.Commit.the-variants as Commit
 use Rattle.record.specs.declared.DeviceOutcome.{DeviceOutcome}
 use Rattle.record.specs.declared.DeviceRecord.{DeviceRecord}
 use Rattle.from_record.specs.Devices.{deviceFrom}
@@ -32,10 +31,10 @@ made-either : (r : DeviceRecord) (b : Bool) (c d : ChangesOrRefusal) (o p : Eval
 made-either r true c d o p h k = h
 made-either r false c d o p h k = k
 
-made-given : (r : DeviceRecord) (a : Evaluation) → outcomeFrom r (evaluationGiven a) ≡ evaluationOutcome r a
+made-given : (r : DeviceRecord) (a : Outcome Evaluated) → outcomeFrom r (evaluationGiven a) ≡ evaluationOutcome r a
 unfolding outcomeFrom evaluationGiven refusedReply evaluatedChanges changedRecord evaluationOutcome evaluatedOutcome evaluatedRecord refusedEvaluation
-made-given r (Evaluation.Done e) = refl
-made-given r (Evaluation.Refused n) = refl
+made-given r (done e) = refl
+made-given r (refused n) = refl
 
 pub evaluation-made : (r : DeviceRecord) (x : List Float) (k : ConditionsRecord) → outcomeFrom r (evaluateOf r x k) ≡ evalCall r x k
 unfolding evaluateOf evalCall outcomeFrom changedRecord refusedReply refusedEvaluation
@@ -70,10 +69,10 @@ commit-either : (r : DeviceRecord) (b : Bool) (c d : CommitAnswer) (o p : Device
 commit-either r true c d o p h k = h
 commit-either r false c d o p h k = k
 
-commit-given : (r : DeviceRecord) (a : Commit) → commitOutcomeFrom r (commitGiven a) ≡ commitOutcome r a
+commit-given : (r : DeviceRecord) (a : Outcome Mosfet1) → commitOutcomeFrom r (commitGiven a) ≡ commitOutcome r a
 unfolding commitOutcomeFrom commitGiven advancedRecord commitOutcome committedRecord
-commit-given r (Commit.Done e) = refl
-commit-given r (Commit.Refused n) = refl
+commit-given r (done e) = refl
+commit-given r (refused n) = refl
 
 pub commit-made : (r : DeviceRecord) (x : List Float) → commitOutcomeFrom r (commitRecordOf r x) ≡ commitCall r x
 unfolding commitRecordOf commitCall commitOutcomeFrom advancedRecord

@@ -7,15 +7,14 @@ use mathlib.Core.List.{List}
 use lib.Dec.{T, eqb, leb}
 use lib.Ieee.{Float}
 use Rattle.bias.specs.declared.Voltages.{Voltages}
+use Rattle.device.specs.Refusals.{Outcome, done, refused, ifAccepted, valuesOr}
 use Rattle.device.specs.declared.Mosfet1.{Mosfet1}
-use Rattle.rows.specs.Rows.{voltagesOf, evalRowOf, commitRowOf}
+use Rattle.rows.specs.Rows.{voltagesOf, evalRows, commitRows}
+use Rattle.device.proofs.Rows.{unless-either}
 use Rattle.mosfet1.specs.Steps.{evaluatedFromOf, evaluatedOf, committedOf}
 use Rattle.mosfet1.specs.declared.steps.Conditions.{Conditions}
-use Rattle.model.specs.Calls.{evaluationOf, evalOf, commitAnswerOf, commitOf}
-use Rattle.model.specs.declared.calls.Evaluation.{Evaluation}
-use Rattle.model.specs.declared.calls.Evaluation.the-variants as Evaluation
-use Rattle.model.specs.declared.calls.Commit.{Commit}
-use Rattle.model.specs.declared.calls.Commit.the-variants as Commit
+use Rattle.mosfet1.specs.declared.steps.Evaluated.{Evaluated}
+use Rattle.model.specs.Calls.{evalOf, commitOf}
 use Rattle.record.specs.Records.{pointRecord, chargesRecord, deviceRecord}
 use Rattle.record.specs.declared.DeviceRecord.{DeviceRecord}
 use Rattle.from_record.specs.Devices.{pointFrom, chargesFrom, deviceFrom}
@@ -23,7 +22,7 @@ use Rattle.from_record.specs.Tags.{goodTerminals, goodHistories, goodStage, goo
 use Rattle.from_record.proofs.ThereAndBack.{device-back, device-tags}
 use Rattle.record_steps.specs.declared.ConditionsRecord.{ConditionsRecord}
 use Rattle.record_steps.specs.declared.EvaluationOutcome.{EvaluationOutcome}
-use Rattle.record_steps.specs.Steps.{goodConditions, conditionsFrom, refusedEvaluation, evaluatedRecord, evaluatedOutcome, evaluationOutcome, evalCall, committedRecord, commitOutcome, commitCall, afterEvaluation, afterCommit}
+use Rattle.record_steps.specs.Steps.{goodConditions, conditionsFrom, refusedEvaluation, evaluatedRecord, evaluatedOutcome, evaluationOutcome, evalCall, committedRecord, commitOutcome, commitCall}
 
 -- ---- the device
 
@@ -63,36 +62,28 @@ committed-back r v =
       stage = d .stage;
     }
 
+-- the model's device after a call: the one handed in where it is refused
+abbrev pub afterEvaluation : Mosfet1 → Outcome Evaluated → Mosfet1
+afterEvaluation d a = ifAccepted (λ (e : Evaluated). e .device) d a
+
 -- the record after the call stands for the device after the model's
-Stands : DeviceRecord → Evaluation → Type 0
+Stands : DeviceRecord → Outcome Evaluated → Type 0
 Stands r a = deviceFrom (evaluationOutcome r a .device) ≡ afterEvaluation (deviceFrom r) a
 
-CommitStands : DeviceRecord → Commit → Type 0
-CommitStands r a = deviceFrom (commitOutcome r a .device) ≡ afterCommit (deviceFrom r) a
-
-either : (r : DeviceRecord) (b : Bool) (n : ℕ) (v : Voltages) (t : Bool) (k : Conditions) → Stands r (cond b (Evaluation.Done (evaluatedOf (deviceFrom r) v t k)) (Evaluation.Refused n))
-unfolding Stands evaluationOutcome evaluatedOutcome refusedEvaluation afterEvaluation
-either r true n v t k = evaluated-back r v t k
-either r false n v t k = refl
-
-commit-either : (r : DeviceRecord) (b : Bool) (n : ℕ) (v : Voltages) → CommitStands r (cond b (Commit.Done (committedOf (deviceFrom r) v)) (Commit.Refused n))
-unfolding CommitStands commitOutcome afterCommit
-commit-either r true n v = committed-back r v
-commit-either r false n v = refl
+CommitStands : DeviceRecord → Outcome Mosfet1 → Type 0
+CommitStands r a = deviceFrom (commitOutcome r a .device) ≡ valuesOr (deviceFrom r) a
 
 stands : (r : DeviceRecord) (x : List Float) (t : Bool) (k : Conditions) → Stands r (evalOf (deviceFrom r) x t k)
-unfolding evalOf evaluationOf
+unfolding evalOf Stands evaluationOutcome evaluatedOutcome refusedEvaluation
 stands r x t k =
     let d = deviceFrom r in
-    let n = evalRowOf (d .stage) (d .terminals) x (k .temperature .0) (k .gmin) (k .method) in
-    either r (eqb n 0) n (voltagesOf x (d .terminals)) t k
+    unless-either (Stands r) (evalRows (d .stage) (d .terminals) x (k .temperature) (k .gmin) (k .method)) refused _ (λ n. refl) (evaluated-back r (voltagesOf x (d .terminals)) t k)
 
 commit-stands : (r : DeviceRecord) (x : List Float) → CommitStands r (commitOf (deviceFrom r) x)
-unfolding commitOf commitAnswerOf
+unfolding commitOf CommitStands commitOutcome
 commit-stands r x =
     let d = deviceFrom r in
-    let n = commitRowOf (d .stage) (d .terminals) x in
-    commit-either r (eqb n 0) n (voltagesOf x (d .terminals))
+    unless-either (CommitStands r) (commitRows (d .stage) (d .terminals) x) refused _ (λ n. refl) (committed-back r (voltagesOf x (d .terminals)))
 
 -- after an evaluation of a record with known tags, at known conditions, it stands for the device after the model's evaluation
 pub eval-stands-for : (r : DeviceRecord) (x : List Float) (k : ConditionsRecord) → goodTags r ≡ true → goodConditions k ≡ true →
@@ -102,7 +93,7 @@ eval-stands-for r x k g h = rw (g, h) (stands r x (eqb (k .transient) 1) (condit
 
 -- after a commit of a record with known tags it stands for the device after the model's commit
 pub commit-stands-for : (r : DeviceRecord) (x : List Float) → goodTags r ≡ true →
-    deviceFrom (commitCall r x .device) ≡ afterCommit (deviceFrom r) (commitOf (deviceFrom r) x)
+    deviceFrom (commitCall r x .device) ≡ valuesOr (deviceFrom r) (commitOf (deviceFrom r) x)
 unfolding commitCall CommitStands
 commit-stands-for r x g = rw (g) (commit-stands r x)
 
@@ -152,10 +143,10 @@ committed-tags r d g =
     (leb (p .card .«rd_card» .tag) 1) (leb (p .card .«rs_card» .tag) 1) (leb (p .method .tag) 3) (goodTerminals (p .terminals)) (goodHistories (p .histories)) (goodStage (p .stage)) g (device-tags d)
 
 -- the tags stay known, whatever the call answers
-evaluation-tags : (r : DeviceRecord) (a : Evaluation) → goodTags r ≡ true → goodTags (evaluationOutcome r a .device) ≡ true
+evaluation-tags : (r : DeviceRecord) (a : Outcome Evaluated) → goodTags r ≡ true → goodTags (evaluationOutcome r a .device) ≡ true
 unfolding evaluationOutcome evaluatedOutcome refusedEvaluation
-evaluation-tags r (Evaluation.Done e) g = evaluated-tags r (e .device) g
-evaluation-tags r (Evaluation.Refused n) g = g
+evaluation-tags r (done e) g = evaluated-tags r (e .device) g
+evaluation-tags r (refused n) g = g
 
 of-either : (b : Bool) (o p : EvaluationOutcome) → goodTags (o .device) ≡ true → goodTags (p .device) ≡ true → goodTags (cond b o p .device) ≡ true
 of-either true o p h k = h
@@ -165,10 +156,10 @@ pub eval-tags : (r : DeviceRecord) (x : List Float) (k : ConditionsRecord) → g
 unfolding evalCall refusedEvaluation
 eval-tags r x k g = rw (g) (of-either (goodConditions k) _ _ (evaluation-tags r (evalOf (deviceFrom r) x (eqb (k .transient) 1) (conditionsFrom k)) g) g)
 
-commit-outcome-tags : (r : DeviceRecord) (a : Commit) → goodTags r ≡ true → goodTags (commitOutcome r a .device) ≡ true
+commit-outcome-tags : (r : DeviceRecord) (a : Outcome Mosfet1) → goodTags r ≡ true → goodTags (commitOutcome r a .device) ≡ true
 unfolding commitOutcome
-commit-outcome-tags r (Commit.Done e) g = committed-tags r e g
-commit-outcome-tags r (Commit.Refused n) g = g
+commit-outcome-tags r (done e) g = committed-tags r e g
+commit-outcome-tags r (refused n) g = g
 
 pub commit-tags : (r : DeviceRecord) (x : List Float) → goodTags r ≡ true → goodTags (commitCall r x .device) ≡ true
 unfolding commitCall

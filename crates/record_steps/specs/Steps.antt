@@ -10,10 +10,7 @@ use Rattle.bias.specs.declared.Answer.{Answer}
 use Rattle.mosfet1.specs.declared.steps.Conditions.{Conditions}
 use Rattle.mosfet1.specs.declared.steps.Evaluated.{Evaluated}
 use Rattle.model.specs.Calls.{evalOf, commitOf}
-use Rattle.model.specs.declared.calls.Evaluation.{Evaluation}
-use Rattle.model.specs.declared.calls.Evaluation.the-variants as Evaluation
-use Rattle.model.specs.declared.calls.Commit.{Commit}
-use Rattle.model.specs.declared.calls.Commit.the-variants as Commit
+use Rattle.device.specs.Refusals.{Outcome, done, refused}
 use Rattle.device.specs.declared.Mosfet1.{Mosfet1}
 use Rattle.record.specs.Records.{pointRecord, chargesRecord, historiesRecord, methodRecord, stageTag}
 use Rattle.record.specs.declared.DeviceOutcome.{DeviceOutcome}
@@ -72,9 +69,9 @@ evaluatedRecord r d =
 unfoldable pub evaluatedOutcome : DeviceRecord → Evaluated → EvaluationOutcome
 evaluatedOutcome r e = record { refusal = 0; answer = answerRecord (e .answer); device = evaluatedRecord r (e .device) }
 
-unfoldable pub evaluationOutcome : DeviceRecord → Evaluation → EvaluationOutcome
-evaluationOutcome r (Evaluation.Done e) = evaluatedOutcome r e
-evaluationOutcome r (Evaluation.Refused n) = refusedEvaluation r n
+unfoldable pub evaluationOutcome : DeviceRecord → Outcome Evaluated → EvaluationOutcome
+evaluationOutcome r (done e) = evaluatedOutcome r e
+evaluationOutcome r (refused n) = refusedEvaluation r n
 
 -- x is the lent list of node voltages
 unfoldable pub evalCall : DeviceRecord → List Float → ConditionsRecord → EvaluationOutcome
@@ -118,9 +115,9 @@ evaluatedChanges e =
       stage = stageTag (e .device .stage);
     }
 
-unfoldable pub evaluationGiven : Evaluation → ChangesOrRefusal
-evaluationGiven (Evaluation.Done e) = Changes (evaluatedChanges e)
-evaluationGiven (Evaluation.Refused n) = Refusal (refusedReply n)
+unfoldable pub evaluationGiven : Outcome Evaluated → ChangesOrRefusal
+evaluationGiven (done e) = Changes (evaluatedChanges e)
+evaluationGiven (refused n) = Refusal (refusedReply n)
 
 unfoldable pub evaluateOf : DeviceRecord → List Float → ConditionsRecord → ChangesOrRefusal
 evaluateOf r x k =
@@ -143,9 +140,9 @@ committedRecord r d =
       stage = r .stage;
     }
 
-unfoldable pub commitOutcome : DeviceRecord → Commit → DeviceOutcome
-commitOutcome r (Commit.Done e) = record { refusal = 0; device = committedRecord r e }
-commitOutcome r (Commit.Refused n) = record { refusal = n; device = r }
+unfoldable pub commitOutcome : DeviceRecord → Outcome Mosfet1 → DeviceOutcome
+commitOutcome r (done e) = record { refusal = 0; device = committedRecord r e }
+commitOutcome r (refused n) = record { refusal = n; device = r }
 
 unfoldable pub commitCall : DeviceRecord → List Float → DeviceOutcome
 commitCall r x = cond (goodTags r) (commitOutcome r (commitOf (deviceFrom r) x)) (record { refusal = 100; device = r })
@@ -166,9 +163,9 @@ advancedRecord r c =
     }
 
 -- what a commit gives to be stored: the parts that it changes, or, where it is refused, the number alone
-unfoldable pub commitGiven : Commit → CommitAnswer
-commitGiven (Commit.Done e) = CommitAnswer.Changes (record { point = pointRecord (e .point); histories = historiesRecord (e .histories) })
-commitGiven (Commit.Refused n) = CommitAnswer.Refusal n
+unfoldable pub commitGiven : Outcome Mosfet1 → CommitAnswer
+commitGiven (done e) = CommitAnswer.Changes (record { point = pointRecord (e .point); histories = historiesRecord (e .histories) })
+commitGiven (refused n) = CommitAnswer.Refusal n
 
 unfoldable pub commitRecordOf : DeviceRecord → List Float → CommitAnswer
 commitRecordOf r x = cond (goodTags r) (commitGiven (commitOf (deviceFrom r) x)) (CommitAnswer.Refusal 100)
@@ -177,13 +174,3 @@ commitRecordOf r x = cond (goodTags r) (commitGiven (commitOf (deviceFrom r) x))
 unfoldable pub commitOutcomeFrom : DeviceRecord → CommitAnswer → DeviceOutcome
 commitOutcomeFrom r (CommitAnswer.Changes c) = record { refusal = 0; device = advancedRecord r c }
 commitOutcomeFrom r (CommitAnswer.Refusal n) = record { refusal = n; device = r }
-
--- ---- the model's device after a call: the one handed in where it is refused
-
-unfoldable pub afterEvaluation : Mosfet1 → Evaluation → Mosfet1
-afterEvaluation d (Evaluation.Done e) = e .device
-afterEvaluation d (Evaluation.Refused n) = d
-
-unfoldable pub afterCommit : Mosfet1 → Commit → Mosfet1
-afterCommit d (Commit.Done e) = e
-afterCommit d (Commit.Refused n) = d

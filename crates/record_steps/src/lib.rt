@@ -11,6 +11,7 @@ use record::MethodRecord;
 use record::PointRecord;
 use temperature::Kelvin;
 ghost use mathlib.Core.Path.{_≡_};
+ghost use Rattle.model.specs.Calls.{outcomeOfEvaluation, outcomeOfCommit};
 ghost use Rattle.record_steps.specs.Steps.{goodConditions, conditionsFrom, answerRecord, refusedReply, evaluatedChanges, evaluationGiven, evaluateOf, commitGiven, commitRecordOf};
 ghost use Rattle.record_steps.specs.declared.ChangesOrRefusal.the-variants.{Changes};
 
@@ -160,7 +161,7 @@ fn accepted_evaluation(e: Evaluated) -> ChangesOrRefusal
 }
 
 fn evaluation_changes(a: Evaluation) -> ChangesOrRefusal
-    ensures { λ c. ⌜ c ≡ evaluationGiven a ⌝ }
+    ensures { λ c. ⌜ c ≡ evaluationGiven (outcomeOfEvaluation a) ⌝ }
 {
     match a {
         Evaluation::Done(e) => accepted_evaluation(e),
@@ -186,7 +187,7 @@ pub fn evaluate(r: DeviceRecord, x: &[f64], k: ConditionsRecord) -> ChangesOrRef
 }
 
 fn commit_changes(a: Commit) -> CommitAnswer
-    ensures { λ c. ⌜ c ≡ commitGiven a ⌝ }
+    ensures { λ c. ⌜ c ≡ commitGiven (outcomeOfCommit a) ⌝ }
 {
     match a {
         Commit::Done(e) => {
