@@ -1,4 +1,4 @@
-/* The SPICE Level-1 MOSFET model: its calls for C on x86-64 Linux. Link target/staticlib/liblibrary.a (rt staticlib library).
+/* The SPICE Level-1 MOSFET model: its calls for C on x86-64 Linux. Link target/staticlib/libmivtolgya.a (rt staticlib mivtolgya).
  *
  * A device is a record in the caller's memory. Each call takes it by value and answers the record that is to take its place,
  * with the number of the refusal: 0 where the call is accepted, 1 to 13 by the table of refusals, 100 where a tag in what was

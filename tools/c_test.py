@@ -1,7 +1,7 @@
 #!/usr/bin/env python3
 """Holds include/mivtolgya.h and rust/src/record.rs to the sources, then builds and runs the C example and the Rust crate.
 
-Run from the repository's root after `rt staticlib library`. Every record that the sources mark #[repr(C)] must stand in the
+Run from the repository's root after `rt staticlib mivtolgya`. Every record that the sources mark #[repr(C)] must stand in the
 header with the same fields at the same offsets, and in rust/src/record.rs word for word; every exported call must have the
 header's prototype. The C example's output must be c/example.stdout. Needs cc and cargo.
 """
@@ -12,7 +12,7 @@ import sys
 import tempfile
 
 CRATES = ["record", "record_setup", "record_steps", "record_small_signal"]
-LIBRARY = "target/staticlib/liblibrary.a"
+LIBRARY = "target/staticlib/libmivtolgya.a"
 NUMBERS = {"f64": "double", "u64": "uint64_t", "u32": "uint32_t", "u8": "uint8_t", "usize": "size_t"}
 
 
@@ -51,7 +51,7 @@ def layout_asserts(all_records):
 
 
 def prototypes():
-    text = open("crates/library/src/lib.rt", encoding="utf-8").read()
+    text = open("crates/mivtolgya/src/lib.rt", encoding="utf-8").read()
     for name, parameters, result in re.findall(r'pub extern "C" fn (\w+)\((.*?)\) -> (\w+)\n', text, re.S):
         kinds = []
         for parameter in filter(None, (p.strip() for p in parameters.replace("\n", " ").split(","))):

@@ -1,4 +1,4 @@
--- `library::mivtolgya_eval` meets its contract: a walk of its MIR, by hand. The record is copied to a local, which is lent for a lifetime that begins here; `mivtolgya_eval_in_place` is called at the loan; the lifetime ends, and the outcome is made of the reply and of what the local then holds.
+-- `mivtolgya::mivtolgya_eval` meets its contract: a walk of its MIR, by hand. The record is copied to a local, which is lent for a lifetime that begins here; `mivtolgya_eval_in_place` is called at the loan; the lifetime ends, and the outcome is made of the reply and of what the local then holds.
 -- All that the proof knows of the callee is that it meets its contract. Nothing of the record's fields is looked into.
 -- Assumes nothing.
 use mathlib.Core.Path.{_≡_, refl, ap}
@@ -56,15 +56,15 @@ use Rattle.record_steps.proofs.EvaluationReply as R
 use Rattle.record_steps.proofs.EvaluationReply.Laws as R′
 use Rattle.record_steps.proofs.EvaluationOutcome as E
 use Rattle.record_steps.proofs.EvaluationOutcome.Laws as E′
-use Rattle.library.proofs.LentRecord.{dev, lies-in, lies-out}
-use Rattle.library.proofs.mivtolgya_eval_in_place as callee
-use Rattle.library.proofs.mivtolgya_eval_in_place.Symbol as callee-def
-use Rattle.library.proofs.mivtolgya_eval_in_place.Symbol.{name as #library·mivtolgya-eval-in-place}
-use Rattle.library.proofs.mivtolgya_eval_in_place.Met as callee-thm
-use Rattle.library.proofs.mivtolgya_eval.Key.{name as #library·mivtolgya-eval}
-use Rattle.library.proofs.mivtolgya_eval as fn
-use Rattle.library.proofs.mivtolgya_eval.Statement as stated
-use Rattle.library.proofs.mivtolgya_eval.Code as code
+use Rattle.mivtolgya.proofs.LentRecord.{dev, lies-in, lies-out}
+use Rattle.mivtolgya.proofs.mivtolgya_eval_in_place as callee
+use Rattle.mivtolgya.proofs.mivtolgya_eval_in_place.Symbol as callee-def
+use Rattle.mivtolgya.proofs.mivtolgya_eval_in_place.Symbol.{name as #mivtolgya·mivtolgya-eval-in-place}
+use Rattle.mivtolgya.proofs.mivtolgya_eval_in_place.Met as callee-thm
+use Rattle.mivtolgya.proofs.mivtolgya_eval.Key.{name as #mivtolgya·mivtolgya-eval}
+use Rattle.mivtolgya.proofs.mivtolgya_eval as fn
+use Rattle.mivtolgya.proofs.mivtolgya_eval.Statement as stated
+use Rattle.mivtolgya.proofs.mivtolgya_eval.Code as code
 
 abbrev stayed : Stays (fn.ended .signature .params) (fn.ended .kept)
 stayed = (stay-dropped (plain (λ _. T.the-row)) yes, (stay-dropped (shrSliceOf (0 ∷ []) tt (plain (λ _. f64))) yes, (stay-dropped (plain (λ _. K.the-row)) yes, tt)))
@@ -128,7 +128,7 @@ module _ {M : Type 1} (𝓤 : URA M) (H : Heap 𝓤) (A : Atoms 𝓤) (W : Given
       says ! (found-so found r d e e′) $ frame ! $ nothing ! $ nothing ! $ fjoin ! $ nothing ! $ fjoin ! $ nothing ! $ fjoin ! $
       owned ! E.the-row (Is E.the-row) (LL.makes E.the-type E′.the-plain 𝓤 H A) (out r d) _ is $ move ! (1 ∷ 0 ∷ []) $ done !
 
-  module _ (C : Calls 𝓤 H) (Λ : Loops 𝓤 H) (fm : FmC 𝓤 H (W .laws) C) (known : Triple 𝓤 (C #library·mivtolgya-eval-in-place) (Callee 𝓤 H A at-mem run)) where
+  module _ (C : Calls 𝓤 H) (Λ : Loops 𝓤 H) (fm : FmC 𝓤 H (W .laws) C) (known : Triple 𝓤 (C #mivtolgya·mivtolgya-eval-in-place) (Callee 𝓤 H A at-mem run)) where
     walk : Is T.the-row h (dev h) → Is (ShrSlice (named 0) κ f64) s (v ∷ []) → Is K.the-row k (con k) → ent 𝓤 (onEntry 𝓤 H A fn.signature (κ, tt) (q, tt) a vals) (WpFn 𝓤 H C Λ code.function (only (dev h) ∷ v ∷ con k) Post)
     walk g p isK =
         qed W ((‵ (flft κ q) ⊛ ‵ ftrue) ∷ ‵ (owns (T.the-row ∷ ShrSlice (named 0) κ f64 ∷ K.the-row ∷ []) a vals) ∷ []) ∵ enter ! C Λ code.function (only (dev h) ∷ v ∷ con k) _ $
@@ -163,14 +163,14 @@ module _ {M : Type 1} (𝓤 : URA M) (H : Heap 𝓤) (A : Atoms 𝓤) (W : Given
         keep ! (0 ∷ []) $ by ! (exits r (ws .0) (e .0) (e .1) (made r (ws .0) _ is isD))))))))))))))))))
 
 module _ {M : Type 1} (𝓤 : URA M) (H : Heap 𝓤) (A : Atoms 𝓤) (W : Given 𝓤 H A) (mem : Memory → SProp 𝓤) (run : Routine → Fun 𝓤) where
-  walks : (C : Calls 𝓤 H) (Λ : Loops 𝓤 H) → FmC 𝓤 H (W .laws) C → Triple 𝓤 (C #library·mivtolgya-eval-in-place) (Callee 𝓤 H A mem run) → Walks 𝓤 H A fn.ended stayed (WpFn 𝓤 H C Λ code.function) (fn.clauses 𝓤 H A mem run)
+  walks : (C : Calls 𝓤 H) (Λ : Loops 𝓤 H) → FmC 𝓤 H (W .laws) C → Triple 𝓤 (C #mivtolgya·mivtolgya-eval-in-place) (Callee 𝓤 H A mem run) → Walks 𝓤 H A fn.ended stayed (WpFn 𝓤 H C Λ code.function) (fn.clauses 𝓤 H A mem run)
   walks C Λ fm known = walked 𝓤 H A fn.ended stayed (fn.clauses 𝓤 H A mem run) (WpFn 𝓤 H C Λ code.function) (λ κs. (dev, (slice-vals, (con, tt)))) (λ κs. (LL.tells T.the-type T′.the-laws, (shr-slice-tells (named 0) (κs .0) f64, (LL.tells K.the-type K′.the-laws, tt))))
       (λ κs qs bounds a g are. via 𝓤 _ (fst∗ 𝓤 _ (emp 𝓤)) (walk 𝓤 H A W mem run (κs .0) (qs .0) (a .0) (a .1 .0) (a .1 .1 .0) C Λ fm known (are .0) (are .1 .0) (are .1 .1 .0)))
 
   goes : AllGo 𝓤 H A W 1 (fn.signature .params) (fn.ended .kept) stayed
   goes = (goes-dropped 𝓤 H A W 1 (plain (λ _. T.the-row)) yes (λ κs x f. refl), (goes-dropped 𝓤 H A W 1 (shrSliceOf (0 ∷ []) tt (plain (λ _. f64))) yes (λ κs x f. refl), (goes-dropped 𝓤 H A W 1 (plain (λ _. K.the-row)) yes (λ κs x f. refl), tt)))
 
-meets : {M : Type 1} (𝓤 : URA M) (H : Heap 𝓤) (A : Atoms 𝓤) (W : Given 𝓤 H A) (mem : Memory → SProp 𝓤) (run : Routine → Fun 𝓤) (𝓣 : Tables 𝓤 H) → Triple 𝓤 (𝓣 .C #library·mivtolgya-eval-in-place) (Callee 𝓤 H A mem run)
+meets : {M : Type 1} (𝓤 : URA M) (H : Heap 𝓤) (A : Atoms 𝓤) (W : Given 𝓤 H A) (mem : Memory → SProp 𝓤) (run : Routine → Fun 𝓤) (𝓣 : Tables 𝓤 H) → Triple 𝓤 (𝓣 .C #mivtolgya·mivtolgya-eval-in-place) (Callee 𝓤 H A mem run)
     → Meets 𝓤 H A fn.signature (WpFn 𝓤 H (𝓣 .C) (𝓣 .Λ) code.function) (fn.spec 𝓤 H A mem run)
 meets 𝓤 H A W mem run 𝓣 known = walk-meets 𝓤 H A fn.ended stayed W (goes 𝓤 H A W mem run) (fn.clauses 𝓤 H A mem run) (WpFn 𝓤 H (𝓣 .C) (𝓣 .Λ) code.function) (WpFn-mono 𝓤 H (W .laws) 𝓣 code.function)
     (walks 𝓤 H A W mem run (𝓣 .C) (𝓣 .Λ) (fmOf 𝓤 H (W .laws) 𝓣) known)
@@ -179,6 +179,6 @@ pub mivtolgya-eval-spec : {M : Type 1} → stated.statement M
 unfolding code.routine tablesOf
 mivtolgya-eval-spec 𝓤 H 𝓜 𝓖 𝓡 =
     entered 𝓤 H (tripleOf 𝓤 H (𝓖 .A) fn.signature (fn.spec 𝓤 H (𝓖 .A) (𝓜 .mem) (𝓡 .run)))
-    (tables 𝓤 H 𝓜 𝓡 code.env .C) (tables 𝓤 H 𝓜 𝓡 code.env .Λ) #library·mivtolgya-eval code.function (code.unfolded 𝓤 H 𝓜 𝓡)
+    (tables 𝓤 H 𝓜 𝓡 code.env .C) (tables 𝓤 H 𝓜 𝓡 code.env .Λ) #mivtolgya·mivtolgya-eval code.function (code.unfolded 𝓤 H 𝓜 𝓡)
     (meets 𝓤 H (𝓖 .A) (givenOf 𝓤 H 𝓜 𝓖) (𝓜 .mem) (𝓡 .run) (tablesOf 𝓤 H 𝓜 (tables 𝓤 H 𝓜 𝓡 code.env))
-    (cited 𝓤 H (Callee 𝓤 H (𝓖 .A) (𝓜 .mem) (𝓡 .run)) 𝓜 𝓡 code.env #library·mivtolgya-eval-in-place callee-def.routine code.calls-library·mivtolgya-eval-in-place (callee-thm.met 𝓤 H 𝓜 𝓖 𝓡)))
+    (cited 𝓤 H (Callee 𝓤 H (𝓖 .A) (𝓜 .mem) (𝓡 .run)) 𝓜 𝓡 code.env #mivtolgya·mivtolgya-eval-in-place callee-def.routine code.calls-mivtolgya·mivtolgya-eval-in-place (callee-thm.met 𝓤 H 𝓜 𝓖 𝓡)))

@@ -1,6 +1,6 @@
 use borrow.Author.Needs.{needs}
-use Rattle.library.proofs.mivtolgya_from_model_params.Statement.{statement}
-use Rattle.library.proofs.mivtolgya_from_model_params.Tie as tie
+use Rattle.mivtolgya.proofs.mivtolgya_from_model_params.Statement.{statement}
+use Rattle.mivtolgya.proofs.mivtolgya_from_model_params.Tie as tie
 
 from-model-params-requires : tie.Need-from-model-params-requires
 from-model-params-requires c κs = search needs

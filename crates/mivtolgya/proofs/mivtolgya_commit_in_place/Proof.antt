@@ -1,4 +1,4 @@
--- `library::mivtolgya_commit_in_place` meets its contract: a walk of its MIR, by hand. The borrow is opened, the record is copied out, `commit` is called at the copy, the two parts that it answers are stored over the old ones, and the borrow is closed at the record with them.
+-- `mivtolgya::mivtolgya_commit_in_place` meets its contract: a walk of its MIR, by hand. The borrow is opened, the record is copied out, `commit` is called at the copy, the two parts that it answers are stored over the old ones, and the borrow is closed at the record with them.
 -- All that the proof knows of `commit` is that it meets its contract. Of the record it looks at no field within the nine parts.
 -- Assumes nothing.
 use mathlib.Core.Path.{_≡_, refl, ap}
@@ -60,10 +60,10 @@ use Rattle.record_steps.proofs.commit as commit
 use Rattle.record_steps.proofs.commit.Symbol as commit-def
 use Rattle.record_steps.proofs.commit.Symbol.{name as #record-steps·commit}
 use Rattle.record_steps.proofs.commit.Met as commit-thm
-use Rattle.library.proofs.mivtolgya_commit_in_place.Key.{name as #library·mivtolgya-commit-in-place}
-use Rattle.library.proofs.mivtolgya_commit_in_place as fn
-use Rattle.library.proofs.mivtolgya_commit_in_place.Statement as stated
-use Rattle.library.proofs.mivtolgya_commit_in_place.Code as code
+use Rattle.mivtolgya.proofs.mivtolgya_commit_in_place.Key.{name as #mivtolgya·mivtolgya-commit-in-place}
+use Rattle.mivtolgya.proofs.mivtolgya_commit_in_place as fn
+use Rattle.mivtolgya.proofs.mivtolgya_commit_in_place.Statement as stated
+use Rattle.mivtolgya.proofs.mivtolgya_commit_in_place.Code as code
 
 abbrev stayed : Stays (fn.ended .signature .params) (fn.ended .kept)
 stayed = (stay-ref (0 ∷ []) tt (plain (λ _. T.the-row)), (stay-none-slice (1 ∷ []) tt (plain (λ _. f64)) yes, tt))
@@ -192,6 +192,6 @@ pub mivtolgya-commit-in-place-spec : {M : Type 1} → stated.statement M
 unfolding code.routine tablesOf
 mivtolgya-commit-in-place-spec 𝓤 H 𝓜 𝓖 𝓡 =
     entered 𝓤 H (tripleOf 𝓤 H (𝓖 .A) fn.signature (fn.spec 𝓤 H (𝓖 .A) (𝓜 .mem) (𝓡 .run)))
-    (tables 𝓤 H 𝓜 𝓡 code.env .C) (tables 𝓤 H 𝓜 𝓡 code.env .Λ) #library·mivtolgya-commit-in-place code.function (code.unfolded 𝓤 H 𝓜 𝓡)
+    (tables 𝓤 H 𝓜 𝓡 code.env .C) (tables 𝓤 H 𝓜 𝓡 code.env .Λ) #mivtolgya·mivtolgya-commit-in-place code.function (code.unfolded 𝓤 H 𝓜 𝓡)
     (meets 𝓤 H (𝓖 .A) (givenOf 𝓤 H 𝓜 𝓖) (𝓜 .mem) (𝓡 .run) (tablesOf 𝓤 H 𝓜 (tables 𝓤 H 𝓜 𝓡 code.env))
     (cited 𝓤 H (Callee 𝓤 H (𝓖 .A) (𝓜 .mem) (𝓡 .run)) 𝓜 𝓡 code.env #record-steps·commit commit-def.routine code.calls-record-steps·commit (commit-thm.met 𝓤 H 𝓜 𝓖 𝓡)))

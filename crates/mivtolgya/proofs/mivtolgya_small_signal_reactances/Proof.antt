@@ -1,6 +1,6 @@
 use borrow.Author.Needs.{needs}
-use Rattle.library.proofs.mivtolgya_small_signal_reactances.Statement.{statement}
-use Rattle.library.proofs.mivtolgya_small_signal_reactances.Tie as tie
+use Rattle.mivtolgya.proofs.mivtolgya_small_signal_reactances.Statement.{statement}
+use Rattle.mivtolgya.proofs.mivtolgya_small_signal_reactances.Tie as tie
 
 small-signal-reactances-requires : tie.Need-small-signal-reactances-requires
 small-signal-reactances-requires c κs = search needs

@@ -1,4 +1,4 @@
--- `library::mivtolgya_eval_in_place` meets its contract: a walk of its MIR, by hand. The borrow is opened, the record is copied out, and `evaluate` is called at the copy. Where it answers changes, the four parts are stored over the old ones and the borrow is closed at the record with them; where it answers a refusal, the borrow is closed at the record as it was.
+-- `mivtolgya::mivtolgya_eval_in_place` meets its contract: a walk of its MIR, by hand. The borrow is opened, the record is copied out, and `evaluate` is called at the copy. Where it answers changes, the four parts are stored over the old ones and the borrow is closed at the record with them; where it answers a refusal, the borrow is closed at the record as it was.
 -- All that the proof knows of `evaluate` is that it meets its contract. Of the record it looks at no field within the nine parts.
 -- Assumes nothing.
 use mathlib.Core.Path.{_≡_, refl, ap}
@@ -74,10 +74,10 @@ use Rattle.record_steps.proofs.evaluate as evaluate
 use Rattle.record_steps.proofs.evaluate.Symbol as evaluate-def
 use Rattle.record_steps.proofs.evaluate.Symbol.{name as #record-steps·evaluate}
 use Rattle.record_steps.proofs.evaluate.Met as evaluate-thm
-use Rattle.library.proofs.mivtolgya_eval_in_place.Key.{name as #library·mivtolgya-eval-in-place}
-use Rattle.library.proofs.mivtolgya_eval_in_place as fn
-use Rattle.library.proofs.mivtolgya_eval_in_place.Statement as stated
-use Rattle.library.proofs.mivtolgya_eval_in_place.Code as code
+use Rattle.mivtolgya.proofs.mivtolgya_eval_in_place.Key.{name as #mivtolgya·mivtolgya-eval-in-place}
+use Rattle.mivtolgya.proofs.mivtolgya_eval_in_place as fn
+use Rattle.mivtolgya.proofs.mivtolgya_eval_in_place.Statement as stated
+use Rattle.mivtolgya.proofs.mivtolgya_eval_in_place.Code as code
 
 abbrev stayed : Stays (fn.ended .signature .params) (fn.ended .kept)
 stayed = (stay-ref (0 ∷ []) tt (plain (λ _. T.the-row)), (stay-none-slice (1 ∷ []) tt (plain (λ _. f64)) yes, (stay-none (λ _. K.the-row) yes, tt)))
@@ -291,6 +291,6 @@ pub mivtolgya-eval-in-place-spec : {M : Type 1} → stated.statement M
 unfolding code.routine tablesOf
 mivtolgya-eval-in-place-spec 𝓤 H 𝓜 𝓖 𝓡 =
     entered 𝓤 H (tripleOf 𝓤 H (𝓖 .A) fn.signature (fn.spec 𝓤 H (𝓖 .A) (𝓜 .mem) (𝓡 .run)))
-    (tables 𝓤 H 𝓜 𝓡 code.env .C) (tables 𝓤 H 𝓜 𝓡 code.env .Λ) #library·mivtolgya-eval-in-place code.function (code.unfolded 𝓤 H 𝓜 𝓡)
+    (tables 𝓤 H 𝓜 𝓡 code.env .C) (tables 𝓤 H 𝓜 𝓡 code.env .Λ) #mivtolgya·mivtolgya-eval-in-place code.function (code.unfolded 𝓤 H 𝓜 𝓡)
     (meets 𝓤 H (𝓖 .A) (givenOf 𝓤 H 𝓜 𝓖) (𝓜 .mem) (𝓡 .run) (tablesOf 𝓤 H 𝓜 (tables 𝓤 H 𝓜 𝓡 code.env))
     (cited 𝓤 H (Callee 𝓤 H (𝓖 .A) (𝓜 .mem) (𝓡 .run)) 𝓜 𝓡 code.env #record-steps·evaluate evaluate-def.routine code.calls-record-steps·evaluate (evaluate-thm.met 𝓤 H 𝓜 𝓖 𝓡)))

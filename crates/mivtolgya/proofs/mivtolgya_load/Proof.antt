@@ -1,4 +1,4 @@
--- `library::mivtolgya_load` meets its contract: a walk of its MIR, by hand. The record is copied to a local, which is lent as `&` for a lifetime that begins here; `mivtolgya_load_in_place` is called at the loan, with both slices that are written; the lifetime ends, and what the callee says of their last elements is what is said here.
+-- `mivtolgya::mivtolgya_load` meets its contract: a walk of its MIR, by hand. The record is copied to a local, which is lent as `&` for a lifetime that begins here; `mivtolgya_load_in_place` is called at the loan, with both slices that are written; the lifetime ends, and what the callee says of their last elements is what is said here.
 -- All that the proof knows of the callee is that it meets its contract. Nothing of the record's fields is looked into.
 -- Assumes nothing.
 use mathlib.Core.Path.{_≡_, refl}
@@ -48,15 +48,15 @@ use Rattle.record.specs.declared.DeviceRecord.{DeviceRecord}
 use Rattle.record_loading.specs.Load.{loadCall, loadedSide, loadedMatrix}
 use Rattle.record.proofs.DeviceRecord as T
 use Rattle.record.proofs.DeviceRecord.Laws as T′
-use Rattle.library.proofs.LentRecord.{dev, lies-in, lies-out}
-use Rattle.library.proofs.mivtolgya_load_in_place as callee
-use Rattle.library.proofs.mivtolgya_load_in_place.Symbol as callee-def
-use Rattle.library.proofs.mivtolgya_load_in_place.Symbol.{name as #library·mivtolgya-load-in-place}
-use Rattle.library.proofs.mivtolgya_load_in_place.Met as callee-thm
-use Rattle.library.proofs.mivtolgya_load.Key.{name as #library·mivtolgya-load}
-use Rattle.library.proofs.mivtolgya_load as fn
-use Rattle.library.proofs.mivtolgya_load.Statement as stated
-use Rattle.library.proofs.mivtolgya_load.Code as code
+use Rattle.mivtolgya.proofs.LentRecord.{dev, lies-in, lies-out}
+use Rattle.mivtolgya.proofs.mivtolgya_load_in_place as callee
+use Rattle.mivtolgya.proofs.mivtolgya_load_in_place.Symbol as callee-def
+use Rattle.mivtolgya.proofs.mivtolgya_load_in_place.Symbol.{name as #mivtolgya·mivtolgya-load-in-place}
+use Rattle.mivtolgya.proofs.mivtolgya_load_in_place.Met as callee-thm
+use Rattle.mivtolgya.proofs.mivtolgya_load.Key.{name as #mivtolgya·mivtolgya-load}
+use Rattle.mivtolgya.proofs.mivtolgya_load as fn
+use Rattle.mivtolgya.proofs.mivtolgya_load.Statement as stated
+use Rattle.mivtolgya.proofs.mivtolgya_load.Code as code
 
 -- the two slices that are written are given to the callee; nothing is kept of what is only read
 abbrev stayed : Stays (fn.ended .signature .params) (fn.ended .kept)
@@ -141,7 +141,7 @@ module _ {M : Type 1} (𝓤 : URA M) (H : Heap 𝓤) (A : Atoms 𝓤) (W : Given
       says ! e $ frame ! $
       nothing ! $ nothing ! $ fjoin ! $ nothing ! $ fjoin ! $ nothing ! $ fjoin ! $ move ! (2 ∷ 0 ∷ []) $ fjoin ! $ move ! (1 ∷ 0 ∷ []) $ fjoin ! $ nothing ! $ fjoin ! $ nothing ! $ fjoin ! $ nothing ! $ fjoin ! $ done !
 
-  module _ (C : Calls 𝓤 H) (Λ : Loops 𝓤 H) (fm : FmC 𝓤 H (W .laws) C) (known : Triple 𝓤 (C #library·mivtolgya-load-in-place) (Callee 𝓤 H A at-mem run)) where
+  module _ (C : Calls 𝓤 H) (Λ : Loops 𝓤 H) (fm : FmC 𝓤 H (W .laws) C) (known : Triple 𝓤 (C #mivtolgya·mivtolgya-load-in-place) (Callee 𝓤 H A at-mem run)) where
     walk : Is T.the-row h (dev h) → Is u64 t (vint w64 t ∷ []) → Is f64 α (vfloat binary64 α ∷ []) → Is (MutSlice (named 0) κ₁ f64) rhs (sl rhs ∷ []) → Is (MutSlice (named 1) κ₂ f64) values (sl values ∷ []) → Is (ShrSlice (named 2) κ₃ u32) columns (sl columns ∷ []) → Is (ShrSlice (named 3) κ₄ usize) offsets (sl offsets ∷ []) → Is (ShrSlice (named 4) κ₅ usize) lengths (sl lengths ∷ [])
         → ent 𝓤 (onEntry 𝓤 H A fn.signature (κ₁, (κ₂, (κ₃, (κ₄, (κ₅, tt))))) (q₁, (q₂, (q₃, (q₄, (q₅, tt))))) a vals) (WpFn 𝓤 H C Λ code.function (only (dev h) ∷ vint w64 t ∷ vfloat binary64 α ∷ sl rhs ∷ sl values ∷ sl columns ∷ sl offsets ∷ sl lengths ∷ []) Post)
     walk g isT isA p₁ p₂ p₃ p₄ p₅ =
@@ -184,7 +184,7 @@ module _ {M : Type 1} (𝓤 : URA M) (H : Heap 𝓤) (A : Atoms 𝓤) (W : Given
         keep ! (1 ∷ 4 ∷ 2 ∷ 0 ∷ []) $ by ! (exits r u (ws .1 .1 .1 .0) (ws .1 .1 .1 .1 .0) e l m)))))))))))))))))))))))))
 
 module _ {M : Type 1} (𝓤 : URA M) (H : Heap 𝓤) (A : Atoms 𝓤) (W : Given 𝓤 H A) (mem : Memory → SProp 𝓤) (run : Routine → Fun 𝓤) where
-  walks : (C : Calls 𝓤 H) (Λ : Loops 𝓤 H) → FmC 𝓤 H (W .laws) C → Triple 𝓤 (C #library·mivtolgya-load-in-place) (Callee 𝓤 H A mem run) → Walks 𝓤 H A fn.ended stayed (WpFn 𝓤 H C Λ code.function) (fn.clauses 𝓤 H A mem run)
+  walks : (C : Calls 𝓤 H) (Λ : Loops 𝓤 H) → FmC 𝓤 H (W .laws) C → Triple 𝓤 (C #mivtolgya·mivtolgya-load-in-place) (Callee 𝓤 H A mem run) → Walks 𝓤 H A fn.ended stayed (WpFn 𝓤 H C Λ code.function) (fn.clauses 𝓤 H A mem run)
   walks C Λ fm known = walked 𝓤 H A fn.ended stayed (fn.clauses 𝓤 H A mem run) (WpFn 𝓤 H C Λ code.function)
       (λ κs. (dev, (uint-vals w64, (float-vals binary64, (slice-vals, (slice-vals, (slice-vals, (slice-vals, (slice-vals, tt)))))))))
       (λ κs. (LL.tells T.the-type T′.the-laws, (uint-tells w64, (float-tells binary64, (mut-slice-tells (named 0) (κs .0) f64, (mut-slice-tells (named 1) (κs .1 .0) f64, (shr-slice-tells (named 2) (κs .1 .1 .0) u32, (shr-slice-tells (named 3) (κs .1 .1 .1 .0) usize, (shr-slice-tells (named 4) (κs .1 .1 .1 .1 .0) usize, tt)))))))))
@@ -210,7 +210,7 @@ module _ {M : Type 1} (𝓤 : URA M) (H : Heap 𝓤) (A : Atoms 𝓤) (W : Given
     ),
   )
 
-meets : {M : Type 1} (𝓤 : URA M) (H : Heap 𝓤) (A : Atoms 𝓤) (W : Given 𝓤 H A) (mem : Memory → SProp 𝓤) (run : Routine → Fun 𝓤) (𝓣 : Tables 𝓤 H) → Triple 𝓤 (𝓣 .C #library·mivtolgya-load-in-place) (Callee 𝓤 H A mem run)
+meets : {M : Type 1} (𝓤 : URA M) (H : Heap 𝓤) (A : Atoms 𝓤) (W : Given 𝓤 H A) (mem : Memory → SProp 𝓤) (run : Routine → Fun 𝓤) (𝓣 : Tables 𝓤 H) → Triple 𝓤 (𝓣 .C #mivtolgya·mivtolgya-load-in-place) (Callee 𝓤 H A mem run)
     → Meets 𝓤 H A fn.signature (WpFn 𝓤 H (𝓣 .C) (𝓣 .Λ) code.function) (fn.spec 𝓤 H A mem run)
 meets 𝓤 H A W mem run 𝓣 known = walk-meets 𝓤 H A fn.ended stayed W (goes 𝓤 H A W mem run) (fn.clauses 𝓤 H A mem run) (WpFn 𝓤 H (𝓣 .C) (𝓣 .Λ) code.function) (WpFn-mono 𝓤 H (W .laws) 𝓣 code.function)
     (walks 𝓤 H A W mem run (𝓣 .C) (𝓣 .Λ) (fmOf 𝓤 H (W .laws) 𝓣) known)
@@ -219,6 +219,6 @@ pub mivtolgya-load-spec : {M : Type 1} → stated.statement M
 unfolding code.routine tablesOf
 mivtolgya-load-spec 𝓤 H 𝓜 𝓖 𝓡 =
     entered 𝓤 H (tripleOf 𝓤 H (𝓖 .A) fn.signature (fn.spec 𝓤 H (𝓖 .A) (𝓜 .mem) (𝓡 .run)))
-    (tables 𝓤 H 𝓜 𝓡 code.env .C) (tables 𝓤 H 𝓜 𝓡 code.env .Λ) #library·mivtolgya-load code.function (code.unfolded 𝓤 H 𝓜 𝓡)
+    (tables 𝓤 H 𝓜 𝓡 code.env .C) (tables 𝓤 H 𝓜 𝓡 code.env .Λ) #mivtolgya·mivtolgya-load code.function (code.unfolded 𝓤 H 𝓜 𝓡)
     (meets 𝓤 H (𝓖 .A) (givenOf 𝓤 H 𝓜 𝓖) (𝓜 .mem) (𝓡 .run) (tablesOf 𝓤 H 𝓜 (tables 𝓤 H 𝓜 𝓡 code.env))
-    (cited 𝓤 H (Callee 𝓤 H (𝓖 .A) (𝓜 .mem) (𝓡 .run)) 𝓜 𝓡 code.env #library·mivtolgya-load-in-place callee-def.routine code.calls-library·mivtolgya-load-in-place (callee-thm.met 𝓤 H 𝓜 𝓖 𝓡)))
+    (cited 𝓤 H (Callee 𝓤 H (𝓖 .A) (𝓜 .mem) (𝓡 .run)) 𝓜 𝓡 code.env #mivtolgya·mivtolgya-load-in-place callee-def.routine code.calls-mivtolgya·mivtolgya-load-in-place (callee-thm.met 𝓤 H 𝓜 𝓖 𝓡)))

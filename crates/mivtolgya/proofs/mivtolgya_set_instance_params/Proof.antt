@@ -1,6 +1,6 @@
 use borrow.Author.Needs.{needs}
-use Rattle.library.proofs.mivtolgya_set_instance_params.Statement.{statement}
-use Rattle.library.proofs.mivtolgya_set_instance_params.Tie as tie
+use Rattle.mivtolgya.proofs.mivtolgya_set_instance_params.Statement.{statement}
+use Rattle.mivtolgya.proofs.mivtolgya_set_instance_params.Tie as tie
 
 set-instance-params-requires : tie.Need-set-instance-params-requires
 set-instance-params-requires c κs = search needs

@@ -1,6 +1,6 @@
 use borrow.Author.Needs.{needs}
-use Rattle.library.proofs.mivtolgya_setup_model.Statement.{statement}
-use Rattle.library.proofs.mivtolgya_setup_model.Tie as tie
+use Rattle.mivtolgya.proofs.mivtolgya_setup_model.Statement.{statement}
+use Rattle.mivtolgya.proofs.mivtolgya_setup_model.Tie as tie
 
 setup-model-requires : tie.Need-setup-model-requires
 setup-model-requires c κs = search needs

@@ -1,4 +1,4 @@
--- `library::mivtolgya_load_in_place` meets its contract: a walk of its MIR, by hand. The borrow of the record is looked into, the record is copied out and the borrow is shut; both slices that are written are handed on to `load`, with the copy, and what `load` says of their last elements is what is said here.
+-- `mivtolgya::mivtolgya_load_in_place` meets its contract: a walk of its MIR, by hand. The borrow of the record is looked into, the record is copied out and the borrow is shut; both slices that are written are handed on to `load`, with the copy, and what `load` says of their last elements is what is said here.
 -- All that the proof knows of `load` is that it meets its contract. Nothing of the record's fields is looked into.
 -- Assumes nothing.
 use mathlib.Core.Path.{_≡_, refl}
@@ -49,10 +49,10 @@ use Rattle.record_loading.proofs.load as load-fn
 use Rattle.record_loading.proofs.load.Symbol as load-def
 use Rattle.record_loading.proofs.load.Symbol.{name as #record-loading·load}
 use Rattle.record_loading.proofs.load.Met as load-thm
-use Rattle.library.proofs.mivtolgya_load_in_place.Key.{name as #library·mivtolgya-load-in-place}
-use Rattle.library.proofs.mivtolgya_load_in_place as fn
-use Rattle.library.proofs.mivtolgya_load_in_place.Statement as stated
-use Rattle.library.proofs.mivtolgya_load_in_place.Code as code
+use Rattle.mivtolgya.proofs.mivtolgya_load_in_place.Key.{name as #mivtolgya·mivtolgya-load-in-place}
+use Rattle.mivtolgya.proofs.mivtolgya_load_in_place as fn
+use Rattle.mivtolgya.proofs.mivtolgya_load_in_place.Statement as stated
+use Rattle.mivtolgya.proofs.mivtolgya_load_in_place.Code as code
 
 -- the two slices that are written are given to the callee; nothing is kept of what is only read
 abbrev stayed : Stays (fn.ended .signature .params) (fn.ended .kept)
@@ -213,6 +213,6 @@ pub mivtolgya-load-in-place-spec : {M : Type 1} → stated.statement M
 unfolding code.routine tablesOf
 mivtolgya-load-in-place-spec 𝓤 H 𝓜 𝓖 𝓡 =
     entered 𝓤 H (tripleOf 𝓤 H (𝓖 .A) fn.signature (fn.spec 𝓤 H (𝓖 .A) (𝓜 .mem) (𝓡 .run)))
-    (tables 𝓤 H 𝓜 𝓡 code.env .C) (tables 𝓤 H 𝓜 𝓡 code.env .Λ) #library·mivtolgya-load-in-place code.function (code.unfolded 𝓤 H 𝓜 𝓡)
+    (tables 𝓤 H 𝓜 𝓡 code.env .C) (tables 𝓤 H 𝓜 𝓡 code.env .Λ) #mivtolgya·mivtolgya-load-in-place code.function (code.unfolded 𝓤 H 𝓜 𝓡)
     (meets 𝓤 H (𝓖 .A) (givenOf 𝓤 H 𝓜 𝓖) (𝓜 .mem) (𝓡 .run) (tablesOf 𝓤 H 𝓜 (tables 𝓤 H 𝓜 𝓡 code.env))
     (cited 𝓤 H (Callee 𝓤 H (𝓖 .A) (𝓜 .mem) (𝓡 .run)) 𝓜 𝓡 code.env #record-loading·load load-def.routine code.calls-record-loading·load (load-thm.met 𝓤 H 𝓜 𝓖 𝓡)))

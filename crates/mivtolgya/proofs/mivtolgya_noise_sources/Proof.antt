@@ -1,6 +1,6 @@
 use borrow.Author.Needs.{needs}
-use Rattle.library.proofs.mivtolgya_noise_sources.Statement.{statement}
-use Rattle.library.proofs.mivtolgya_noise_sources.Tie as tie
+use Rattle.mivtolgya.proofs.mivtolgya_noise_sources.Statement.{statement}
+use Rattle.mivtolgya.proofs.mivtolgya_noise_sources.Tie as tie
 
 noise-sources-requires : tie.Need-noise-sources-requires
 noise-sources-requires c κs = search needs

@@ -1,6 +1,6 @@
 use borrow.Author.Needs.{needs}
-use Rattle.library.proofs.mivtolgya_num_extra_nodes.Statement.{statement}
-use Rattle.library.proofs.mivtolgya_num_extra_nodes.Tie as tie
+use Rattle.mivtolgya.proofs.mivtolgya_num_extra_nodes.Statement.{statement}
+use Rattle.mivtolgya.proofs.mivtolgya_num_extra_nodes.Tie as tie
 
 num-extra-nodes-requires : tie.Need-num-extra-nodes-requires
 num-extra-nodes-requires c κs = search needs

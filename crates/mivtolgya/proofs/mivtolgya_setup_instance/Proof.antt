@@ -1,6 +1,6 @@
 use borrow.Author.Needs.{needs}
-use Rattle.library.proofs.mivtolgya_setup_instance.Statement.{statement}
-use Rattle.library.proofs.mivtolgya_setup_instance.Tie as tie
+use Rattle.mivtolgya.proofs.mivtolgya_setup_instance.Statement.{statement}
+use Rattle.mivtolgya.proofs.mivtolgya_setup_instance.Tie as tie
 
 setup-instance-requires : tie.Need-setup-instance-requires
 setup-instance-requires c κs = search needs
