@@ -1,39 +1,101 @@
-/* The SPICE Level-1 MOSFET model: its calls for C on x86-64 Linux. Link target/staticlib/liblibrary.a (rt staticlib library).
+/* The SPICE Level-1 MOSFET model: its calls for C and C++ on x86-64 Linux. Link libmivtolgya.a (`rt staticlib mivtolgya` writes it
+ * to target/staticlib/). docs/USING.md has the order of the calls, the table of refusals, the keys with their ranges, and memory.
  *
- * A device is a record in the caller's memory. Each call takes it by value and answers the record that is to take its place,
- * with the number of the refusal: 0 where the call is accepted, 1 to 13 by the table of refusals, 100 where a tag in what was
- * handed in is unknown. After a refusal the record answered is the one handed in and nothing lent was written.
+ * A device is a record in the caller's memory. A call takes it by value and answers the record that is to take its place, with the
+ * number of the refusal: MIVTOLGYA_ACCEPTED, or one of MIVTOLGYA_REFUSED_.. below. After a refusal the record answered is the one
+ * handed in and nothing lent was written. Evaluation, load and commit stand here also for a record where it lies (`_in_place`): the
+ * same answers and the same record afterwards, but only what changes is written and nothing is copied. A loop should call these.
  *
- * Evaluation, load and commit stand here also for a record where it lies (`_in_place`): the same answers and the same record
- * afterwards, but only what changes is written and nothing is copied. A loop should call these. The pointer to the record is
- * aligned and not null, and nothing else that is lent overlaps the record.
+ * Rules of every pointer. A lent slice is a pointer and the count of its elements. The pointer is not null, also where the count is
+ * 0, and aligned for its element: 8 bytes for double and size_t, 4 for uint32_t. A slice that is only read (const) may overlap other
+ * slices that are only read. A slice that is written overlaps nothing else that is lent, the record included. No pointer is kept
+ * after the call. Nothing checks these rules: a call that breaks one has no defined answer.
  *
- * Every field has eight bytes, so records have no padding: they can be copied and compared byte by byte. Memory of zeros is no
- * device; only a card makes one. A lent slice is a pointer and a length. The pointer is aligned and not null, also where the
- * length is 0, and a slice that is written overlaps no other. */
+ * Every field of a record has eight bytes, so records have no padding: they can be copied and compared byte by byte. */
 #ifndef MIVTOLGYA_H
 #define MIVTOLGYA_H
 
 #include <stddef.h>
 #include <stdint.h>
+#include <string.h>
 
-#ifdef __cplusplus
-extern "C" {
+#if !defined(__x86_64__) || !defined(__linux__)
+#error "libmivtolgya.a is an archive for x86-64 Linux"
 #endif
 
-/* A node: tag 0 is ground, tag 1 the row that `index` names. */
+#ifdef __cplusplus
+#define MIVTOLGYA_ASSERT(name, test) static_assert(test, #name)
+extern "C" {
+#elif defined(__STDC_VERSION__) && __STDC_VERSION__ >= 201112L
+#define MIVTOLGYA_ASSERT(name, test) _Static_assert(test, #name)
+#else
+#define MIVTOLGYA_ASSERT(name, test) typedef char mivtolgya_assert_##name[(test) ? 1 : -1]
+#endif
+
+/* The interface's number. It rises with each change of a record, a call or the meaning of a number. */
+#define MIVTOLGYA_VERSION UINT64_C(1)
+
+/* ---- refusals. The causes, and what to do, are in the table of docs/USING.md */
+#define MIVTOLGYA_ACCEPTED UINT64_C(0)
+#define MIVTOLGYA_REFUSED_KEY_PAIRS UINT64_C(1)     /* keys overlap or go past the bytes, or the counts differ */
+#define MIVTOLGYA_REFUSED_KEY_BYTE UINT64_C(2)      /* a byte of a key is not ASCII */
+#define MIVTOLGYA_REFUSED_UNKNOWN_KEYS UINT64_C(3)  /* more unknown keys than the lent list has room for */
+#define MIVTOLGYA_REFUSED_KEY_VALUE UINT64_C(4)     /* a key's value is NaN or out of its range */
+#define MIVTOLGYA_REFUSED_OXIDE UINT64_C(5)         /* flicker noise (kf) without an oxide capacitance */
+#define MIVTOLGYA_REFUSED_TEMPERATURE UINT64_C(6)   /* a temperature, tnom or gmin is NaN or out of range */
+#define MIVTOLGYA_REFUSED_POTENTIAL UINT64_C(7)     /* phi or pb would fall below 0.05 V at this temperature */
+#define MIVTOLGYA_REFUSED_NODE UINT64_C(8)          /* a node lies behind the end of what is lent, or above 2^32 - 1 */
+#define MIVTOLGYA_REFUSED_VOLTAGE UINT64_C(9)       /* a voltage is not finite or beyond 1000 V */
+#define MIVTOLGYA_REFUSED_STAGE UINT64_C(10)        /* the call comes too early or too late */
+#define MIVTOLGYA_REFUSED_STEP UINT64_C(11)         /* a step, or alpha where there is no step, is out of range */
+#define MIVTOLGYA_REFUSED_PATTERN UINT64_C(12)      /* the matrix is not laid out as it must be */
+#define MIVTOLGYA_REFUSED_MISSING_CELL UINT64_C(13) /* the matrix has no place for a value */
+#define MIVTOLGYA_REFUSED_TAG UINT64_C(100)         /* an unknown tag, or memory that is no device */
+
+/* ---- what the inline checks below answer besides; the library itself never does */
+#define MIVTOLGYA_OTHER_VERSION UINT64_C(201)      /* the archive has another interface than this header */
+#define MIVTOLGYA_OTHER_RECORD UINT64_C(202)       /* the archive's device has another size than this header's */
+#define MIVTOLGYA_NO_ROOM UINT64_C(203)            /* more keys or bytes than an inline helper has room for */
+#define MIVTOLGYA_OTHER_ROUNDING UINT64_C(204)     /* the rounding mode is not "to nearest, ties to even" */
+#define MIVTOLGYA_SUBNORMALS_LOST UINT64_C(205)    /* flush-to-zero or denormals-are-zero is on */
+#define MIVTOLGYA_EXCEPTIONS_TRAPPED UINT64_C(206) /* a floating-point exception would raise a signal */
+
+/* ---- choices */
+#define MIVTOLGYA_NMOS UINT64_C(0)
+#define MIVTOLGYA_PMOS UINT64_C(1)
+
+#define MIVTOLGYA_NODE_GROUND UINT64_C(0)
+#define MIVTOLGYA_NODE_ROW UINT64_C(1)
+
+#define MIVTOLGYA_ABSENT UINT64_C(0)
+#define MIVTOLGYA_PRESENT UINT64_C(1)
+
+#define MIVTOLGYA_METHOD_NONE UINT64_C(0)
+#define MIVTOLGYA_METHOD_EULER UINT64_C(1)
+#define MIVTOLGYA_METHOD_TRAPEZOID UINT64_C(2)
+#define MIVTOLGYA_METHOD_GEAR UINT64_C(3)
+
+#define MIVTOLGYA_STAGE_CARD UINT64_C(1)
+#define MIVTOLGYA_STAGE_GEOMETRY UINT64_C(2)
+#define MIVTOLGYA_STAGE_SCALED UINT64_C(3)
+#define MIVTOLGYA_STAGE_BOUND UINT64_C(4)
+#define MIVTOLGYA_STAGE_EVALUATED UINT64_C(5)
+
+/* ---- records */
+
+/* A node: MIVTOLGYA_NODE_GROUND, or MIVTOLGYA_NODE_ROW and the row that `index` names, from 0 on. */
 typedef struct {
     uint64_t tag;
     size_t index;
 } mivtolgya_node;
 
-/* A number that may be absent: tag 0 absent, tag 1 `value`. */
+/* A number that may be absent: MIVTOLGYA_ABSENT, or MIVTOLGYA_PRESENT and `value`. */
 typedef struct {
     uint64_t tag;
     double value;
 } mivtolgya_given;
 
-/* An integration method: tag 0 none, 1 Euler with h, 2 trapezoid with h, 3 Gear with h and the earlier h. */
+/* An integration method, its tag a MIVTOLGYA_METHOD_..: none; Euler or trapezoid with the step h; Gear with h and the earlier step. */
 typedef struct {
     uint64_t tag;
     double h;
@@ -152,6 +214,7 @@ typedef struct {
     double i_prev;
 } mivtolgya_history;
 
+/* The pasts of the five charge branches: gate-source, gate-drain, gate-bulk, bulk-source, bulk-drain. */
 typedef struct {
     mivtolgya_history gs_hist;
     mivtolgya_history gd_hist;
@@ -160,7 +223,7 @@ typedef struct {
     mivtolgya_history bd_hist;
 } mivtolgya_histories;
 
-/* The device. The stage counts from 1: card, geometry, scaling, binding, evaluation; so memory of zeros is no device. */
+/* The device. `stage` is a MIVTOLGYA_STAGE_..; they count from 1, so memory of zeros is no device and only a card makes one. */
 typedef struct {
     mivtolgya_card card;
     mivtolgya_geometry geometry;
@@ -173,13 +236,14 @@ typedef struct {
     uint64_t stage;
 } mivtolgya_device;
 
-/* The device after a call and the number of the refusal, 0 where the call is accepted. A refused call's device is the one handed in. */
+/* The device after a call and the number of the refusal. A refused call's device is the one handed in. */
 typedef struct {
     uint64_t refusal;
     mivtolgya_device device;
 } mivtolgya_device_outcome;
 
-/* The device after a card or geometry call, the count of unknown keys, and the number of the refusal. A refused call's device is the record handed in, its count 0. */
+/* The device after a card or geometry call, the count of unknown keys, and the number of the refusal. A refused call's device is the
+ * record handed in, its count 0. */
 typedef struct {
     uint64_t refusal;
     size_t unknown;
@@ -200,7 +264,7 @@ typedef struct {
     mivtolgya_node bulk;
 } mivtolgya_nodes;
 
-/* What an evaluation is handed besides the voltages. The limiter and the transient flag are 0 or 1. */
+/* What an evaluation is handed besides the voltages: kelvin, siemens; the limiter and the transient flag, 0 or 1; the method. */
 typedef struct {
     double temperature;
     double gmin;
@@ -209,7 +273,8 @@ typedef struct {
     mivtolgya_method method;
 } mivtolgya_conditions;
 
-/* The kept voltages, flipped; the threshold; the current, not flipped; the conductances, gds with gmin. */
+/* In volts: the gate-source and drain-source voltages that the evaluation kept, times -1 for PMOS, and the threshold in the same
+ * sense; the drain current in ampere as it flows, not flipped; in siemens gm, gds with gmin in it, and gmbs. */
 typedef struct {
     double vgs;
     double vds;
@@ -220,7 +285,8 @@ typedef struct {
     double gmbs;
 } mivtolgya_answer;
 
-/* The device after an evaluation, what it answers, and the number of the refusal. A refused one answers zeros and the device handed in. */
+/* The device after an evaluation, what it answers, and the number of the refusal. A refused one answers zeros and the device handed
+ * in. */
 typedef struct {
     uint64_t refusal;
     mivtolgya_answer answer;
@@ -233,7 +299,7 @@ typedef struct {
     mivtolgya_answer answer;
 } mivtolgya_evaluation_reply;
 
-/* A noise source: tag 0 none, tag 1 from drain to source with its density; and the number of the refusal. */
+/* A noise source, MIVTOLGYA_ABSENT or MIVTOLGYA_PRESENT: from drain to source, its density in A^2/Hz; and the number of the refusal. */
 typedef struct {
     uint64_t refusal;
     uint64_t tag;
@@ -242,7 +308,7 @@ typedef struct {
     double density;
 } mivtolgya_noise_outcome;
 
-/* A capacitor between two nodes: tag 0 absent, tag 1 present. */
+/* A capacitor between two nodes in farad, MIVTOLGYA_ABSENT or MIVTOLGYA_PRESENT. */
 typedef struct {
     uint64_t tag;
     mivtolgya_node pos;
@@ -250,6 +316,7 @@ typedef struct {
     double capacitance;
 } mivtolgya_reactance;
 
+/* The five capacitors at the operating point, and the number of the refusal. */
 typedef struct {
     uint64_t refusal;
     mivtolgya_reactance gs;
@@ -259,7 +326,48 @@ typedef struct {
     mivtolgya_reactance bd;
 } mivtolgya_reactances_outcome;
 
-/* Reads a card into the record: keys are runs of `bytes` by offset and length, `values` their numbers. Polarity 0 is NMOS, 1 PMOS. The places of unknown keys are written to `unknown`; the outcome has their count. */
+/* ---- sizes: eight bytes for each number */
+MIVTOLGYA_ASSERT(double_size, sizeof(double) == 8);
+MIVTOLGYA_ASSERT(count_size, sizeof(size_t) == 8);
+MIVTOLGYA_ASSERT(node_size, sizeof(mivtolgya_node) == 16);
+MIVTOLGYA_ASSERT(given_size, sizeof(mivtolgya_given) == 16);
+MIVTOLGYA_ASSERT(method_size, sizeof(mivtolgya_method) == 24);
+MIVTOLGYA_ASSERT(card_size, sizeof(mivtolgya_card) == 208);
+MIVTOLGYA_ASSERT(geometry_size, sizeof(mivtolgya_geometry) == 168);
+MIVTOLGYA_ASSERT(scaled_size, sizeof(mivtolgya_scaled) == 56);
+MIVTOLGYA_ASSERT(terminals_size, sizeof(mivtolgya_terminals) == 96);
+MIVTOLGYA_ASSERT(point_size, sizeof(mivtolgya_point) == 88);
+MIVTOLGYA_ASSERT(charges_size, sizeof(mivtolgya_charges) == 96);
+MIVTOLGYA_ASSERT(history_size, sizeof(mivtolgya_history) == 32);
+MIVTOLGYA_ASSERT(histories_size, sizeof(mivtolgya_histories) == 160);
+MIVTOLGYA_ASSERT(device_size, sizeof(mivtolgya_device) == 904);
+MIVTOLGYA_ASSERT(device_outcome_size, sizeof(mivtolgya_device_outcome) == 912);
+MIVTOLGYA_ASSERT(keys_outcome_size, sizeof(mivtolgya_keys_outcome) == 920);
+MIVTOLGYA_ASSERT(count_outcome_size, sizeof(mivtolgya_count_outcome) == 16);
+MIVTOLGYA_ASSERT(nodes_size, sizeof(mivtolgya_nodes) == 64);
+MIVTOLGYA_ASSERT(conditions_size, sizeof(mivtolgya_conditions) == 56);
+MIVTOLGYA_ASSERT(answer_size, sizeof(mivtolgya_answer) == 56);
+MIVTOLGYA_ASSERT(evaluation_outcome_size, sizeof(mivtolgya_evaluation_outcome) == 968);
+MIVTOLGYA_ASSERT(evaluation_reply_size, sizeof(mivtolgya_evaluation_reply) == 64);
+MIVTOLGYA_ASSERT(noise_outcome_size, sizeof(mivtolgya_noise_outcome) == 56);
+MIVTOLGYA_ASSERT(reactance_size, sizeof(mivtolgya_reactance) == 48);
+MIVTOLGYA_ASSERT(reactances_outcome_size, sizeof(mivtolgya_reactances_outcome) == 248);
+
+/* ---- calls */
+
+/* The interface's number in the archive: MIVTOLGYA_VERSION of the header that belongs to it. */
+uint64_t mivtolgya_version(void);
+
+/* The size of the archive's device record in bytes. */
+size_t mivtolgya_device_size(void);
+
+/* Reads a card: the stage is then MIVTOLGYA_STAGE_CARD. Key i is the `lengths[i]` bytes of `bytes` from `offsets[i]` on, in ASCII,
+ * letters of either case; `values[i]` is its number. The three counts are equal, and no key begins before the end of the last one.
+ * `old` is any record that was initialised (mivtolgya_device_init): it is not looked at, and answered where the card is refused.
+ * polarity: MIVTOLGYA_NMOS or MIVTOLGYA_PMOS.
+ * bytes: not null, any alignment, only read. offsets, lengths, values: not null, aligned to 8, only read.
+ * unknown: not null, aligned to 8, room for `unknown_space` numbers, overlaps nothing else that is lent. The indices of the unknown
+ * keys are written to it in order; the outcome has their count, and what lies behind them is not touched. */
 mivtolgya_keys_outcome mivtolgya_from_model_params(
     mivtolgya_device old,
     uint64_t polarity,
@@ -274,7 +382,7 @@ mivtolgya_keys_outcome mivtolgya_from_model_params(
     size_t *unknown,
     size_t unknown_space);
 
-/* Sets the geometry: w, l, as, ad, ps, pd, nrd, nrs. */
+/* Sets the geometry: w, l, as, ad, ps, pd, nrd, nrs. The keys, the list and their pointers as for a card. */
 mivtolgya_keys_outcome mivtolgya_set_instance_params(
     mivtolgya_device device,
     const uint8_t *bytes,
@@ -293,24 +401,29 @@ mivtolgya_device_outcome mivtolgya_setup_model(
     mivtolgya_device device,
     double temperature);
 
-/* How many nodes beyond the four terminals a binding takes. */
+/* How many nodes beyond the four terminals a binding takes: one for each series resistance above 0. */
 mivtolgya_count_outcome mivtolgya_num_extra_nodes(
     mivtolgya_device device);
 
-/* Binds the terminals, and the extra nodes from `first` on. */
+/* Binds the terminals, and the extra nodes from the row `first` on: the inner drain, then the inner source. */
 mivtolgya_device_outcome mivtolgya_setup_instance(
     mivtolgya_device device,
     mivtolgya_nodes nodes,
     size_t first);
 
-/* Evaluates at the node voltages `x`. */
+/* Evaluates at the node voltages `x`, in volts, one for each row.
+ * x: not null, aligned to 8, only read. */
 mivtolgya_evaluation_outcome mivtolgya_eval(
     mivtolgya_device device,
     const double *x,
     size_t x_count,
     mivtolgya_conditions conditions);
 
-/* Adds the device to the right-hand side and the matrix. Row i of the matrix is `lengths[i]` values from `offsets[i]` on, in the columns that stand there. `transient` is 0 or 1; alpha is read where the last evaluation had no step. Answers the number of the refusal. */
+/* Adds the device to the right-hand side and the matrix. Row i of the matrix is `lengths[i]` values from `offsets[i]` on, in the
+ * columns that stand at the same places of `columns`, rising. `transient` is 0 or 1. alpha, in 1/s, is read where the last
+ * evaluation had no step. Answers the number of the refusal.
+ * rhs, values: not null, aligned to 8, written: neither overlaps the other or anything else that is lent.
+ * columns: not null, aligned to 4, only read. offsets, lengths: not null, aligned to 8, only read. */
 uint64_t mivtolgya_load(
     mivtolgya_device device,
     uint64_t transient,
@@ -326,13 +439,14 @@ uint64_t mivtolgya_load(
     const size_t *lengths,
     size_t length_count);
 
-/* Commits the step at the node voltages `x`. */
+/* Commits the step at the node voltages `x`: the evaluated charges become the last ones.
+ * x: not null, aligned to 8, only read. */
 mivtolgya_device_outcome mivtolgya_commit_timestep(
     mivtolgya_device device,
     const double *x,
     size_t x_count);
 
-/* The noise source at a temperature in kelvin and a frequency. */
+/* The noise source at a temperature in kelvin and a frequency in hertz. */
 mivtolgya_noise_outcome mivtolgya_noise_sources(
     mivtolgya_device device,
     double temperature,
@@ -342,14 +456,17 @@ mivtolgya_noise_outcome mivtolgya_noise_sources(
 mivtolgya_reactances_outcome mivtolgya_small_signal_reactances(
     mivtolgya_device device);
 
-/* `mivtolgya_eval` of the record where it lies. */
+/* `mivtolgya_eval` of the record where it lies.
+ * device: not null, aligned to 8, written where the call is accepted: overlaps nothing else that is lent.
+ * x: not null, aligned to 8, only read. */
 mivtolgya_evaluation_reply mivtolgya_eval_in_place(
     mivtolgya_device *device,
     const double *x,
     size_t x_count,
     mivtolgya_conditions conditions);
 
-/* `mivtolgya_load` of the record where it lies, which is only read. */
+/* `mivtolgya_load` of the record where it lies.
+ * device: not null, aligned to 8, only read. The slices and their pointers as for `mivtolgya_load`. */
 uint64_t mivtolgya_load_in_place(
     const mivtolgya_device *device,
     uint64_t transient,
@@ -365,22 +482,196 @@ uint64_t mivtolgya_load_in_place(
     const size_t *lengths,
     size_t length_count);
 
-/* `mivtolgya_commit_timestep` of the record where it lies. Answers the number of the refusal. */
+/* `mivtolgya_commit_timestep` of the record where it lies. Answers the number of the refusal.
+ * device: not null, aligned to 8, written where the call is accepted: overlaps nothing else that is lent.
+ * x: not null, aligned to 8, only read. */
 uint64_t mivtolgya_commit_in_place(
     mivtolgya_device *device,
     const double *x,
     size_t x_count);
 
-/* The record is replaced by what the call answers, and the number of the refusal is returned. */
+/* ---- checks before the first call */
+
+/* Whether this header belongs to the archive that is linked: MIVTOLGYA_ACCEPTED, _OTHER_VERSION or _OTHER_RECORD. */
+static inline uint64_t mivtolgya_check_interface(void) {
+    if (mivtolgya_version() != MIVTOLGYA_VERSION) {
+        return MIVTOLGYA_OTHER_VERSION;
+    }
+    return mivtolgya_device_size() == sizeof(mivtolgya_device) ? MIVTOLGYA_ACCEPTED : MIVTOLGYA_OTHER_RECORD;
+}
+
+/* Whether the calling thread computes as the proofs assume: rounding to nearest even, subnormal numbers kept, no exception trapped.
+ * Each thread has its own setting, in the register MXCSR. */
+static inline uint64_t mivtolgya_check_floating_point(void) {
+    uint32_t mxcsr;
+    __asm__ __volatile__("stmxcsr %0" : "=m"(mxcsr));
+    if ((mxcsr & 0x6000u) != 0) { /* bits 13 and 14: the rounding mode */
+        return MIVTOLGYA_OTHER_ROUNDING;
+    }
+    if ((mxcsr & 0x8040u) != 0) { /* bit 15: flush to zero; bit 6: denormals are zero */
+        return MIVTOLGYA_SUBNORMALS_LOST;
+    }
+    return (mxcsr & 0x1f80u) == 0x1f80u ? MIVTOLGYA_ACCEPTED : MIVTOLGYA_EXCEPTIONS_TRAPPED; /* bits 7 to 12: masks */
+}
+
+/* Makes the record zeros, as the card call needs it, and answers both checks: the first that fails, or MIVTOLGYA_ACCEPTED. */
+__attribute__((warn_unused_result)) static inline uint64_t mivtolgya_device_init(mivtolgya_device *device) {
+    uint64_t interface = mivtolgya_check_interface();
+    memset(device, 0, sizeof *device);
+    return interface != MIVTOLGYA_ACCEPTED ? interface : mivtolgya_check_floating_point();
+}
+
+/* A refusal, or the answer of a check, in words. */
+static inline const char *mivtolgya_refusal_text(uint64_t number) {
+    switch (number) {
+    case MIVTOLGYA_ACCEPTED: return "accepted";
+    case MIVTOLGYA_REFUSED_KEY_PAIRS: return "keys overlap or go past the bytes, or the counts differ";
+    case MIVTOLGYA_REFUSED_KEY_BYTE: return "a byte of a key is not ASCII";
+    case MIVTOLGYA_REFUSED_UNKNOWN_KEYS: return "more unknown keys than the list has room for";
+    case MIVTOLGYA_REFUSED_KEY_VALUE: return "a key's value is NaN or out of its range";
+    case MIVTOLGYA_REFUSED_OXIDE: return "flicker noise without an oxide capacitance";
+    case MIVTOLGYA_REFUSED_TEMPERATURE: return "a temperature or gmin is out of range";
+    case MIVTOLGYA_REFUSED_POTENTIAL: return "phi or pb falls below 0.05 V at this temperature";
+    case MIVTOLGYA_REFUSED_NODE: return "a node lies behind the end of what is lent, or above 2^32 - 1";
+    case MIVTOLGYA_REFUSED_VOLTAGE: return "a voltage is not finite or beyond 1000 V";
+    case MIVTOLGYA_REFUSED_STAGE: return "the call comes too early or too late";
+    case MIVTOLGYA_REFUSED_STEP: return "a step or alpha is out of range";
+    case MIVTOLGYA_REFUSED_PATTERN: return "the matrix is not laid out as it must be";
+    case MIVTOLGYA_REFUSED_MISSING_CELL: return "the matrix has no place for a value";
+    case MIVTOLGYA_REFUSED_TAG: return "an unknown tag, or memory that is no device";
+    case MIVTOLGYA_OTHER_VERSION: return "the archive has another interface";
+    case MIVTOLGYA_OTHER_RECORD: return "the archive's device has another size";
+    case MIVTOLGYA_NO_ROOM: return "more keys or bytes than there is room for";
+    case MIVTOLGYA_OTHER_ROUNDING: return "the rounding mode is not to nearest even";
+    case MIVTOLGYA_SUBNORMALS_LOST: return "subnormal numbers are flushed to zero";
+    case MIVTOLGYA_EXCEPTIONS_TRAPPED: return "a floating-point exception would raise a signal";
+    default: return "no number of this interface";
+    }
+}
+
+/* ---- helpers: nodes, methods, keys, and the calls before the loop on a record where it lies */
+
+static inline mivtolgya_node mivtolgya_ground(void) {
+    mivtolgya_node node = {MIVTOLGYA_NODE_GROUND, 0};
+    return node;
+}
+
+static inline mivtolgya_node mivtolgya_row(size_t index) {
+    mivtolgya_node node = {MIVTOLGYA_NODE_ROW, index};
+    return node;
+}
+
+static inline mivtolgya_method mivtolgya_no_step(void) {
+    mivtolgya_method method = {MIVTOLGYA_METHOD_NONE, 0.0, 0.0};
+    return method;
+}
+
+static inline mivtolgya_method mivtolgya_euler(double h) {
+    mivtolgya_method method = {MIVTOLGYA_METHOD_EULER, h, 0.0};
+    return method;
+}
+
+static inline mivtolgya_method mivtolgya_trapezoid(double h) {
+    mivtolgya_method method = {MIVTOLGYA_METHOD_TRAPEZOID, h, 0.0};
+    return method;
+}
+
+static inline mivtolgya_method mivtolgya_gear(double h, double h_prev) {
+    mivtolgya_method method = {MIVTOLGYA_METHOD_GEAR, h, h_prev};
+    return method;
+}
+
+/* A key and its value; the name ends with a zero byte. */
+typedef struct {
+    const char *name;
+    double value;
+} mivtolgya_key;
+
+/* Lays keys out as the card and geometry calls read them: the names one after the other in `bytes`, each with its offset and
+ * length, and the values. Answers MIVTOLGYA_ACCEPTED and the count of bytes in `byte_count`, or MIVTOLGYA_NO_ROOM where there are
+ * more than `key_space` keys or `byte_space` bytes. The pointers that are written overlap nothing. */
+static inline uint64_t mivtolgya_lay_out(
+    const mivtolgya_key *keys,
+    size_t count,
+    uint8_t *bytes,
+    size_t byte_space,
+    size_t *offsets,
+    size_t *lengths,
+    double *values,
+    size_t key_space,
+    size_t *byte_count) {
+    size_t end = 0;
+    if (count > key_space) {
+        return MIVTOLGYA_NO_ROOM;
+    }
+    for (size_t i = 0; i < count; i++) {
+        size_t length = strlen(keys[i].name);
+        if (length > byte_space - end) {
+            return MIVTOLGYA_NO_ROOM;
+        }
+        memcpy(bytes + end, keys[i].name, length);
+        offsets[i] = end;
+        lengths[i] = length;
+        values[i] = keys[i].value;
+        end += length;
+    }
+    *byte_count = end;
+    return MIVTOLGYA_ACCEPTED;
+}
+
+/* The room for keys in the two helpers below, on the stack. For more, lay the keys out yourself. */
+#define MIVTOLGYA_KEY_SPACE 64
+#define MIVTOLGYA_BYTE_SPACE 512
+
+/* A card from keys with their values, stored in the record where it is accepted. No key may be unknown: one is answered as
+ * MIVTOLGYA_REFUSED_UNKNOWN_KEYS. Whoever takes cards with unknown keys calls mivtolgya_from_model_params. */
+static inline uint64_t mivtolgya_read_card(mivtolgya_device *device, uint64_t polarity, const mivtolgya_key *keys, size_t count) {
+    uint8_t bytes[MIVTOLGYA_BYTE_SPACE];
+    size_t offsets[MIVTOLGYA_KEY_SPACE], lengths[MIVTOLGYA_KEY_SPACE], unknown[1], end;
+    double values[MIVTOLGYA_KEY_SPACE];
+    uint64_t refusal = mivtolgya_lay_out(keys, count, bytes, sizeof bytes, offsets, lengths, values, MIVTOLGYA_KEY_SPACE, &end);
+    if (refusal == MIVTOLGYA_ACCEPTED) {
+        mivtolgya_keys_outcome o =
+            mivtolgya_from_model_params(*device, polarity, bytes, end, offsets, count, lengths, count, values, count, unknown, 0);
+        refusal = o.refusal;
+        if (refusal == MIVTOLGYA_ACCEPTED) {
+            *device = o.device;
+        }
+    }
+    return refusal;
+}
+
+/* A geometry likewise. */
+static inline uint64_t mivtolgya_read_geometry(mivtolgya_device *device, const mivtolgya_key *keys, size_t count) {
+    uint8_t bytes[MIVTOLGYA_BYTE_SPACE];
+    size_t offsets[MIVTOLGYA_KEY_SPACE], lengths[MIVTOLGYA_KEY_SPACE], unknown[1], end;
+    double values[MIVTOLGYA_KEY_SPACE];
+    uint64_t refusal = mivtolgya_lay_out(keys, count, bytes, sizeof bytes, offsets, lengths, values, MIVTOLGYA_KEY_SPACE, &end);
+    if (refusal == MIVTOLGYA_ACCEPTED) {
+        mivtolgya_keys_outcome o =
+            mivtolgya_set_instance_params(*device, bytes, end, offsets, count, lengths, count, values, count, unknown, 0);
+        refusal = o.refusal;
+        if (refusal == MIVTOLGYA_ACCEPTED) {
+            *device = o.device;
+        }
+    }
+    return refusal;
+}
+
+/* mivtolgya_setup_model and mivtolgya_setup_instance, stored in the record where they are accepted. */
 static inline uint64_t mivtolgya_scale(mivtolgya_device *device, double temperature) {
     mivtolgya_device_outcome o = mivtolgya_setup_model(*device, temperature);
-    *device = o.device;
+    if (o.refusal == MIVTOLGYA_ACCEPTED) {
+        *device = o.device;
+    }
     return o.refusal;
 }
 
 static inline uint64_t mivtolgya_bind(mivtolgya_device *device, mivtolgya_nodes nodes, size_t first) {
     mivtolgya_device_outcome o = mivtolgya_setup_instance(*device, nodes, first);
-    *device = o.device;
+    if (o.refusal == MIVTOLGYA_ACCEPTED) {
+        *device = o.device;
+    }
     return o.refusal;
 }
 

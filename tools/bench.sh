@@ -3,7 +3,7 @@
 # FAIRCHILD_SRC names the folder of the published sources. Run from the repository's root; prints tables for docs/PERFORMANCE.md.
 set -e
 : "${FAIRCHILD_SRC:?set FAIRCHILD_SRC to the folder of the published Rust sources}"
-for library in library elementary; do
+for library in mivtolgya elementary; do
     [ -e "target/staticlib/lib$library.a" ] || rt staticlib "$library"
 done
 PORT_LIBS="$(pwd)/target/staticlib"

@@ -1,13 +1,11 @@
 //! From a card to a load: an NMOS with its source and bulk at ground, in a matrix of two rows.
-use mivtolgya::{Conditions, Device, Keys, Load, Matrix, Method, Node, Polarity, Refusal};
+use mivtolgya::{Conditions, Device, Load, Matrix, Method, Node, Polarity, Refusal};
 
 fn main() -> Result<(), Refusal> {
-    let card = Keys { bytes: b"vtokpgamma", offsets: &[0, 3, 5], lengths: &[3, 2, 5], values: &[1.0, 2.0, 0.5] };
-    let (mut device, _) = Device::from_model_params(Polarity::Nmos, card, &mut [])?;
-    let sizes = Keys { bytes: b"wl", offsets: &[0, 1], lengths: &[1, 1], values: &[1e-4, 1e-4] };
-    device.set_instance_params(sizes, &mut [])?;
+    let (mut device, _) = Device::from_model_params(Polarity::Nmos, &[("vto", 1.0), ("kp", 2.0), ("gamma", 0.5)], &mut [])?;
+    device.set_instance_params(&[("w", 1e-4), ("l", 1e-4)], &mut [])?;
     device.setup_model(300.15)?;
-    device.setup_instance(Node::At(0), Node::At(1), Node::Ground, Node::Ground, 2)?;
+    device.setup_instance(Node::Row(0), Node::Row(1), Node::Ground, Node::Ground, 2)?;
     let x = [1.0, 3.0];
     let conditions =
         Conditions { temperature: 300.15, gmin: 1e-12, limiter: false, transient: true, method: Method::Euler(1e-9) };

@@ -1,210 +1,210 @@
-//! The SPICE Level-1 MOSFET model, proved: a safe face of the static library.
+//! The SPICE Level-1 MOSFET model, proved: a safe face of `libmivtolgya.a`. It needs no standard library and no heap.
 //!
-//! A [`Device`] owns its record. Every call answers or is refused under a number: 1 to 13 by the table of refusals. After a
-//! refusal the device and every lent slice hold what they held. The refusal 100, an unknown tag, cannot happen here: records
-//! come from the library alone, and the choices handed in are enums.
+//! A [`Device`] owns its record. The calls come in the order card, geometry, scaling, binding, evaluation; load, commit, noise and
+//! reactances follow an evaluation. Every call answers or is refused by a [`Refusal`]; after a refusal the device and every lent
+//! slice hold what they held. The repository's docs/USING.md has the keys with their ranges, the causes of refusals, and what
+//! threads may share.
+//!
+//! ```
+//! use mivtolgya::{Conditions, Device, Method, Node, Polarity};
+//! # fn main() -> Result<(), mivtolgya::Refusal> {
+//! let (mut device, _) = Device::from_model_params(Polarity::Nmos, &[("vto", 1.0), ("kp", 2.0)], &mut [])?;
+//! device.set_instance_params(&[("w", 1e-4), ("l", 1e-4)], &mut [])?;
+//! device.setup_model(300.15)?;
+//! device.setup_instance(Node::Row(0), Node::Row(1), Node::Ground, Node::Ground, 2)?;
+//! let conditions = Conditions { temperature: 300.15, gmin: 0.0, limiter: false, transient: false, method: Method::None };
+//! assert_eq!(device.eval(&[1.0, 3.0], conditions)?.ids, 3.0);
+//! # Ok(())
+//! # }
+//! ```
+#![no_std]
+#![warn(missing_docs)]
+
+#[cfg(not(all(target_arch = "x86_64", target_os = "linux", target_pointer_width = "64")))]
+compile_error!("libmivtolgya.a is an archive for x86-64 Linux");
+
+mod calls;
+mod keys;
+#[allow(missing_docs)]
 mod record;
+mod refusal;
 
-pub use record::{AnswerRecord, CardRecord, ChargesRecord, DeviceRecord, GeometryRecord, GivenRecord, HistoriesRecord};
-pub use record::{HistoryRecord, MethodRecord, NodeRecord, PointRecord, ScaledRecord, TerminalsRecord};
-use record::{ConditionsRecord, CountOutcome, DeviceOutcome, EvaluationReply, KeysOutcome, NodesRecord};
-use record::{NoiseOutcome, ReactanceRecord, ReactancesOutcome};
+pub use keys::{Keys, MAX_KEYS, MAX_KEY_BYTES};
+pub use record::*;
+pub use refusal::{check_floating_point, check_interface, Refusal};
 
-// A slice is handed over as a pointer and a length; a slice's pointer is never null, also where it is empty.
-extern "C" {
-    fn mivtolgya_from_model_params(
-        old: DeviceRecord,
-        polarity: u64,
-        bytes: *const u8,
-        byte_count: usize,
-        offsets: *const usize,
-        offset_count: usize,
-        lengths: *const usize,
-        length_count: usize,
-        values: *const f64,
-        value_count: usize,
-        unknown: *mut usize,
-        unknown_space: usize,
-    ) -> KeysOutcome;
-    fn mivtolgya_set_instance_params(
-        device: DeviceRecord,
-        bytes: *const u8,
-        byte_count: usize,
-        offsets: *const usize,
-        offset_count: usize,
-        lengths: *const usize,
-        length_count: usize,
-        values: *const f64,
-        value_count: usize,
-        unknown: *mut usize,
-        unknown_space: usize,
-    ) -> KeysOutcome;
-    fn mivtolgya_setup_model(device: DeviceRecord, temperature: f64) -> DeviceOutcome;
-    fn mivtolgya_num_extra_nodes(device: DeviceRecord) -> CountOutcome;
-    fn mivtolgya_setup_instance(device: DeviceRecord, nodes: NodesRecord, first: usize) -> DeviceOutcome;
-    fn mivtolgya_eval_in_place(
-        device: &mut DeviceRecord,
-        x: *const f64,
-        x_count: usize,
-        conditions: ConditionsRecord,
-    ) -> EvaluationReply;
-    fn mivtolgya_load_in_place(
-        device: &DeviceRecord,
-        transient: u64,
-        alpha: f64,
-        rhs: *mut f64,
-        rhs_count: usize,
-        values: *mut f64,
-        value_count: usize,
-        columns: *const u32,
-        column_count: usize,
-        offsets: *const usize,
-        offset_count: usize,
-        lengths: *const usize,
-        length_count: usize,
-    ) -> u64;
-    fn mivtolgya_commit_in_place(device: &mut DeviceRecord, x: *const f64, x_count: usize) -> u64;
-    fn mivtolgya_noise_sources(device: DeviceRecord, temperature: f64, freq: f64) -> NoiseOutcome;
-    fn mivtolgya_small_signal_reactances(device: DeviceRecord) -> ReactancesOutcome;
-}
+use calls::*;
+use keys::Room;
+use refusal::accepted;
 
-/// The number of a refusal.
+/// The channel's polarity.
 #[derive(Clone, Copy, Debug, PartialEq, Eq)]
-pub struct Refusal(pub u64);
-
-fn accepted(number: u64) -> Result<(), Refusal> {
-    if number == 0 {
-        Ok(())
-    } else {
-        Err(Refusal(number))
-    }
-}
-
-#[derive(Clone, Copy, Debug, PartialEq, Eq)]
+#[repr(u64)]
 pub enum Polarity {
-    Nmos,
-    Pmos,
+    /// n-channel.
+    Nmos = NMOS,
+    /// p-channel.
+    Pmos = PMOS,
 }
 
-/// Ground, or the row of a node.
+/// How far a device has come.
+#[derive(Clone, Copy, Debug, PartialEq, Eq, PartialOrd, Ord)]
+#[repr(u64)]
+pub enum Stage {
+    /// Its card was read.
+    Card = STAGE_CARD,
+    /// Its geometry was set.
+    Geometry = STAGE_GEOMETRY,
+    /// It was scaled to a temperature.
+    Scaled = STAGE_SCALED,
+    /// Its terminals were bound.
+    Bound = STAGE_BOUND,
+    /// It was evaluated.
+    Evaluated = STAGE_EVALUATED,
+}
+
+/// A node of the circuit.
 #[derive(Clone, Copy, Debug, PartialEq, Eq)]
 pub enum Node {
+    /// The node whose voltage is 0 and that has no row.
     Ground,
-    At(usize),
+    /// The row of the node in voltages, right-hand side and matrix, from 0 on.
+    Row(usize),
 }
 
 impl Node {
     fn record(self) -> NodeRecord {
         match self {
-            Node::Ground => NodeRecord { tag: 0, index: 0 },
-            Node::At(index) => NodeRecord { tag: 1, index },
+            Node::Ground => NodeRecord { tag: NODE_GROUND, index: 0 },
+            Node::Row(index) => NodeRecord { tag: NODE_ROW, index },
         }
     }
 
     fn from(record: NodeRecord) -> Node {
-        if record.tag == 0 {
+        if record.tag == NODE_GROUND {
             Node::Ground
         } else {
-            Node::At(record.index)
+            Node::Row(record.index)
         }
     }
 }
 
-/// An integration method with its step lengths.
+/// An integration method with its step lengths in seconds, each from 1e-15 to 1.
 #[derive(Clone, Copy, Debug, PartialEq)]
 pub enum Method {
+    /// No step: a load then needs its alpha.
     None,
+    /// Backward Euler with the step h.
     Euler(f64),
+    /// The trapezoidal rule with the step h.
     Trapezoid(f64),
+    /// Gear of second order with the step h and the earlier one.
     Gear(f64, f64),
 }
 
 impl Method {
     fn record(self) -> MethodRecord {
         let (tag, h, h_prev) = match self {
-            Method::None => (0, 0.0, 0.0),
-            Method::Euler(h) => (1, h, 0.0),
-            Method::Trapezoid(h) => (2, h, 0.0),
-            Method::Gear(h, h_prev) => (3, h, h_prev),
+            Method::None => (METHOD_NONE, 0.0, 0.0),
+            Method::Euler(h) => (METHOD_EULER, h, 0.0),
+            Method::Trapezoid(h) => (METHOD_TRAPEZOID, h, 0.0),
+            Method::Gear(h, h_prev) => (METHOD_GEAR, h, h_prev),
         };
         MethodRecord { tag, h, h_prev }
     }
 }
 
-/// Keys as one run of bytes, each with its offset and length, and their values.
-#[derive(Clone, Copy, Debug)]
-pub struct Keys<'a> {
-    pub bytes: &'a [u8],
-    pub offsets: &'a [usize],
-    pub lengths: &'a [usize],
-    pub values: &'a [f64],
-}
-
 /// What an evaluation is handed besides the voltages.
 #[derive(Clone, Copy, Debug)]
 pub struct Conditions {
+    /// In kelvin, 200 to 500. Read for the thermal voltage alone; the parameters are those of the last scaling.
     pub temperature: f64,
+    /// In siemens, 0 to 1: added to the channel's and the junctions' conductances.
     pub gmin: f64,
+    /// Whether the steps of the gate-source and drain-source voltages are limited.
     pub limiter: bool,
+    /// Whether capacitances and charges are evaluated too.
     pub transient: bool,
+    /// The method by which a later load and commit integrate the charges.
     pub method: Method,
 }
 
-/// A matrix by rows: row i is `lengths[i]` values from `offsets[i]` on, in the columns that stand there.
+/// A matrix by rows: row i is `lengths[i]` values from `offsets[i]` on, in the columns that stand at the same places.
 #[derive(Debug)]
 pub struct Matrix<'a> {
+    /// The values that are added to.
     pub values: &'a mut [f64],
+    /// The column of each value, rising in a row.
     pub columns: &'a [u32],
+    /// Where each row begins, not before the end of the one before it.
     pub offsets: &'a [usize],
+    /// How many values each row has.
     pub lengths: &'a [usize],
 }
 
+/// What a load adds.
 #[derive(Clone, Copy, Debug)]
 pub enum Load {
+    /// Channel and junctions.
     DirectCurrent,
-    /// The factor is read where the last evaluation had no step.
+    /// The charge branches too. The factor alpha, in 1/s, is read where the last evaluation had no step.
     Transient(f64),
 }
 
+/// A noise source.
 #[derive(Clone, Copy, Debug, PartialEq)]
 pub struct Noise {
+    /// The inner drain.
     pub drain: Node,
+    /// The inner source.
     pub source: Node,
+    /// In A²/Hz.
     pub density: f64,
 }
 
+/// A capacitor between two nodes.
 #[derive(Clone, Copy, Debug, PartialEq)]
 pub struct Reactance {
+    /// The node at its positive end.
     pub pos: Node,
+    /// The node at its negative end.
     pub neg: Node,
+    /// In farad.
     pub capacitance: f64,
 }
 
 fn reactance(record: ReactanceRecord) -> Option<Reactance> {
-    (record.tag == 1).then(|| Reactance {
+    (record.tag == PRESENT).then(|| Reactance {
         pos: Node::from(record.pos),
         neg: Node::from(record.neg),
         capacitance: record.capacitance,
     })
 }
 
-/// A device, from the stage of its card on.
-#[derive(Clone, Copy, Debug)]
+/// A device, from the stage of its card on. It is 904 bytes of plain numbers: a clone is a second device.
+#[derive(Clone, Debug)]
 pub struct Device {
     record: DeviceRecord,
 }
 
 impl Device {
-    /// Reads a card. The places of unknown keys go to `unknown`; their count is answered.
-    pub fn from_model_params(polarity: Polarity, keys: Keys, unknown: &mut [usize]) -> Result<(Device, usize), Refusal> {
+    /// Reads a card: keys by name with their values, at most [`MAX_KEYS`] of them. The places of unknown keys go to `unknown`, in
+    /// order; their count is answered.
+    pub fn from_model_params(polarity: Polarity, keys: &[(&str, f64)], unknown: &mut [usize]) -> Result<(Device, usize), Refusal> {
+        Device::from_laid_out_params(polarity, Room::new().lay_out(keys)?, unknown)
+    }
+
+    /// Reads a card whose keys are laid out already.
+    pub fn from_laid_out_params(polarity: Polarity, keys: Keys, unknown: &mut [usize]) -> Result<(Device, usize), Refusal> {
+        check_interface()?;
+        check_floating_point()?;
         // SAFETY: the record is numbers alone, for which zeros are values.
-        let none: DeviceRecord = unsafe { std::mem::zeroed() };
-        let tag = (polarity == Polarity::Pmos) as u64;
-        // SAFETY: each pointer and length is a live slice's; the one that is written is borrowed mutably.
+        let none: DeviceRecord = unsafe { core::mem::zeroed() };
+        // SAFETY: each pointer and count is a live slice's; the one that is written is borrowed mutably.
         let o = unsafe {
             mivtolgya_from_model_params(
                 none,
-                tag,
+                polarity as u64,
                 keys.bytes.as_ptr(),
                 keys.bytes.len(),
                 keys.offsets.as_ptr(),
@@ -221,12 +221,18 @@ impl Device {
         Ok((Device { record: o.device }, o.unknown))
     }
 
-    /// Sets the geometry. The places of unknown keys go to `unknown`; their count is answered.
-    pub fn set_instance_params(&mut self, keys: Keys, unknown: &mut [usize]) -> Result<usize, Refusal> {
-        // SAFETY: as above.
+    /// Sets the geometry: keys by name with their values, at most [`MAX_KEYS`] of them. The places of unknown keys go to
+    /// `unknown`, in order; their count is answered.
+    pub fn set_instance_params(&mut self, keys: &[(&str, f64)], unknown: &mut [usize]) -> Result<usize, Refusal> {
+        self.set_laid_out_params(Room::new().lay_out(keys)?, unknown)
+    }
+
+    /// Sets the geometry from keys that are laid out already.
+    pub fn set_laid_out_params(&mut self, keys: Keys, unknown: &mut [usize]) -> Result<usize, Refusal> {
+        // SAFETY: as for a card.
         let o = unsafe {
             mivtolgya_set_instance_params(
-                self.record,
+                self.record.clone(),
                 keys.bytes.as_ptr(),
                 keys.bytes.len(),
                 keys.offsets.as_ptr(),
@@ -247,32 +253,29 @@ impl Device {
     /// Scales the parameters to a temperature in kelvin.
     pub fn setup_model(&mut self, temperature: f64) -> Result<(), Refusal> {
         // SAFETY: records by value.
-        let o = unsafe { mivtolgya_setup_model(self.record, temperature) };
+        let o = unsafe { mivtolgya_setup_model(self.record.clone(), temperature) };
+        accepted(o.refusal)?;
         self.record = o.device;
-        accepted(o.refusal)
+        Ok(())
     }
 
-    /// How many nodes beyond the four terminals a binding takes.
+    /// How many nodes beyond the four terminals a binding takes: one for each series resistance above 0.
     pub fn num_extra_nodes(&self) -> usize {
         // SAFETY: records by value.
-        unsafe { mivtolgya_num_extra_nodes(self.record).count }
+        unsafe { mivtolgya_num_extra_nodes(self.record.clone()).count }
     }
 
-    /// Binds drain, gate, source and bulk, and the extra nodes from `first` on.
+    /// Binds drain, gate, source and bulk, and the extra nodes from the row `first` on: the inner drain, then the inner source.
     pub fn setup_instance(&mut self, drain: Node, gate: Node, source: Node, bulk: Node, first: usize) -> Result<(), Refusal> {
-        let nodes = NodesRecord {
-            drain: drain.record(),
-            gate: gate.record(),
-            source: source.record(),
-            bulk: bulk.record(),
-        };
+        let nodes = NodesRecord { drain: drain.record(), gate: gate.record(), source: source.record(), bulk: bulk.record() };
         // SAFETY: records by value.
-        let o = unsafe { mivtolgya_setup_instance(self.record, nodes, first) };
+        let o = unsafe { mivtolgya_setup_instance(self.record.clone(), nodes, first) };
+        accepted(o.refusal)?;
         self.record = o.device;
-        accepted(o.refusal)
+        Ok(())
     }
 
-    /// Evaluates at the node voltages `x`.
+    /// Evaluates at the node voltages `x`, in volts, one for each row.
     pub fn eval(&mut self, x: &[f64], conditions: Conditions) -> Result<AnswerRecord, Refusal> {
         let record = ConditionsRecord {
             temperature: conditions.temperature,
@@ -281,7 +284,7 @@ impl Device {
             transient: conditions.transient as u64,
             method: conditions.method.record(),
         };
-        // SAFETY: the pointer and length are a live slice's; the record is borrowed mutably, so it overlaps none.
+        // SAFETY: the pointer and count are a live slice's; the record is borrowed mutably, so it overlaps none.
         let reply = unsafe { mivtolgya_eval_in_place(&mut self.record, x.as_ptr(), x.len(), record) };
         accepted(reply.refusal)?;
         Ok(reply.answer)
@@ -293,7 +296,7 @@ impl Device {
             Load::DirectCurrent => (0, 0.0),
             Load::Transient(alpha) => (1, alpha),
         };
-        // SAFETY: each pointer and length is a live slice's; both that are written are borrowed mutably, so they overlap none.
+        // SAFETY: each pointer and count is a live slice's; both that are written are borrowed mutably, so they overlap none.
         accepted(unsafe {
             mivtolgya_load_in_place(
                 &self.record,
@@ -313,18 +316,18 @@ impl Device {
         })
     }
 
-    /// Commits the step at the node voltages `x`.
+    /// Commits the step at the node voltages `x`: the evaluated charges become the last ones.
     pub fn commit_timestep(&mut self, x: &[f64]) -> Result<(), Refusal> {
         // SAFETY: as for an evaluation.
         accepted(unsafe { mivtolgya_commit_in_place(&mut self.record, x.as_ptr(), x.len()) })
     }
 
-    /// The noise source at a temperature in kelvin and a frequency, if there is one.
+    /// The noise source at a temperature in kelvin and a frequency in hertz, if there is one.
     pub fn noise_sources(&self, temperature: f64, freq: f64) -> Result<Option<Noise>, Refusal> {
         // SAFETY: records by value.
-        let o = unsafe { mivtolgya_noise_sources(self.record, temperature, freq) };
+        let o = unsafe { mivtolgya_noise_sources(self.record.clone(), temperature, freq) };
         accepted(o.refusal)?;
-        Ok((o.tag == 1).then(|| Noise {
+        Ok((o.tag == PRESENT).then(|| Noise {
             drain: Node::from(o.drain),
             source: Node::from(o.source),
             density: o.density,
@@ -334,12 +337,23 @@ impl Device {
     /// The capacitors gs, gd, gb, bs and bd at the operating point.
     pub fn small_signal_reactances(&self) -> Result<[Option<Reactance>; 5], Refusal> {
         // SAFETY: records by value.
-        let o = unsafe { mivtolgya_small_signal_reactances(self.record) };
+        let o = unsafe { mivtolgya_small_signal_reactances(self.record.clone()) };
         accepted(o.refusal)?;
         Ok([o.gs, o.gd, o.gb, o.bs, o.bd].map(reactance))
     }
 
-    /// The device's record, to look at or to keep.
+    /// How far the device has come.
+    pub fn stage(&self) -> Stage {
+        match self.record.stage {
+            STAGE_CARD => Stage::Card,
+            STAGE_GEOMETRY => Stage::Geometry,
+            STAGE_SCALED => Stage::Scaled,
+            STAGE_BOUND => Stage::Bound,
+            _ => Stage::Evaluated,
+        }
+    }
+
+    /// The device's record, to look at.
     pub fn record(&self) -> &DeviceRecord {
         &self.record
     }

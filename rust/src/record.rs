@@ -1,6 +1,45 @@
-//! The records of include/mivtolgya.h, word for word those of the sources (tools/c_test.py compares them).
+//! The records and numbers of include/mivtolgya.h. The records are word for word those of the sources; tools/callers_test.py
+//! compares both. A record that holds a device is not `Copy`: it has more than 900 bytes, and a copy should be seen.
 
-/// A node: tag 0 is ground, tag 1 the row that `index` names.
+/// The interface's number that this wrapper was written for.
+pub const VERSION: u64 = 1;
+
+/// Polarity of a card: n-channel.
+pub const NMOS: u64 = 0;
+/// Polarity of a card: p-channel.
+pub const PMOS: u64 = 1;
+
+/// Tag of a node: ground.
+pub const NODE_GROUND: u64 = 0;
+/// Tag of a node: a row of the matrix.
+pub const NODE_ROW: u64 = 1;
+
+/// Tag of a number, a noise source or a capacitor that is not there.
+pub const ABSENT: u64 = 0;
+/// Tag of a number, a noise source or a capacitor that is there.
+pub const PRESENT: u64 = 1;
+
+/// Tag of a method: none.
+pub const METHOD_NONE: u64 = 0;
+/// Tag of a method: backward Euler.
+pub const METHOD_EULER: u64 = 1;
+/// Tag of a method: trapezoid.
+pub const METHOD_TRAPEZOID: u64 = 2;
+/// Tag of a method: Gear of second order.
+pub const METHOD_GEAR: u64 = 3;
+
+/// Stage of a device: its card was read.
+pub const STAGE_CARD: u64 = 1;
+/// Stage of a device: its geometry was set.
+pub const STAGE_GEOMETRY: u64 = 2;
+/// Stage of a device: it was scaled to a temperature.
+pub const STAGE_SCALED: u64 = 3;
+/// Stage of a device: its terminals were bound.
+pub const STAGE_BOUND: u64 = 4;
+/// Stage of a device: it was evaluated.
+pub const STAGE_EVALUATED: u64 = 5;
+
+/// A node: [`NODE_GROUND`], or [`NODE_ROW`] and the row that `index` names, from 0 on.
 #[repr(C)]
 #[derive(Clone, Copy, Debug)]
 pub struct NodeRecord {
@@ -8,7 +47,7 @@ pub struct NodeRecord {
     pub index: usize,
 }
 
-/// A number that may be absent: tag 0 absent, tag 1 `value`.
+/// A number that may be absent: [`ABSENT`], or [`PRESENT`] and `value`.
 #[repr(C)]
 #[derive(Clone, Copy, Debug)]
 pub struct GivenRecord {
@@ -16,7 +55,7 @@ pub struct GivenRecord {
     pub value: f64,
 }
 
-/// An integration method: tag 0 none, 1 Euler with h, 2 trapezoid with h, 3 Gear with h and the earlier h.
+/// An integration method, its tag a `METHOD_..`: none; Euler or trapezoid with the step h; Gear with h and the earlier step.
 #[repr(C)]
 #[derive(Clone, Copy, Debug)]
 pub struct MethodRecord {
@@ -151,6 +190,7 @@ pub struct HistoryRecord {
     pub i_prev: f64,
 }
 
+/// The pasts of the five charge branches: gate-source, gate-drain, gate-bulk, bulk-source, bulk-drain.
 #[repr(C)]
 #[derive(Clone, Copy, Debug)]
 pub struct HistoriesRecord {
@@ -161,9 +201,9 @@ pub struct HistoriesRecord {
     pub bd_hist: HistoryRecord,
 }
 
-/// The device. The stage counts from 1: card, geometry, scaling, binding, evaluation; so memory of zeros is no device.
+/// The device. `stage` is a `STAGE_..`; they count from 1, so memory of zeros is no device.
 #[repr(C)]
-#[derive(Clone, Copy, Debug)]
+#[derive(Clone, Debug)]
 pub struct DeviceRecord {
     pub card: CardRecord,
     pub geometry: GeometryRecord,
@@ -176,9 +216,10 @@ pub struct DeviceRecord {
     pub stage: u64,
 }
 
-/// The device after a call and the number of the refusal, 0 where the call is accepted. A refused call's device is the one handed in.
+/// The device after a call and the number of the refusal, 0 where the call is accepted. A refused call's device is the one handed
+/// in.
 #[repr(C)]
-#[derive(Clone, Copy, Debug)]
+#[derive(Clone, Debug)]
 pub struct DeviceOutcome {
     pub refusal: u64,
     pub device: DeviceRecord,
@@ -187,7 +228,7 @@ pub struct DeviceOutcome {
 /// The device after a card or geometry call, the count of unknown keys, and the number of the refusal. A refused call's device is
 /// the record handed in, its count 0.
 #[repr(C)]
-#[derive(Clone, Copy, Debug)]
+#[derive(Clone, Debug)]
 pub struct KeysOutcome {
     pub refusal: u64,
     pub unknown: usize,
@@ -223,7 +264,8 @@ pub struct ConditionsRecord {
     pub method: MethodRecord,
 }
 
-/// The kept voltages, flipped; the threshold; the current, not flipped; the conductances, gds with gmin.
+/// What an evaluation answers. In volts: the gate-source and drain-source voltages that the evaluation kept, times −1 for PMOS, and
+/// the threshold in the same sense; the drain current in ampere as it flows, not flipped; in siemens gm, gds with gmin in it, gmbs.
 #[repr(C)]
 #[derive(Clone, Copy, Debug)]
 pub struct AnswerRecord {
@@ -236,10 +278,10 @@ pub struct AnswerRecord {
     pub gmbs: f64,
 }
 
-/// The device after an evaluation, what it answers, and the number of the refusal. A refused one answers zeros and the device handed in.
-#[allow(dead_code)]
+/// The device after an evaluation, what it answers, and the number of the refusal. A refused one answers zeros and the device
+/// handed in.
 #[repr(C)]
-#[derive(Clone, Copy, Debug)]
+#[derive(Clone, Debug)]
 pub struct EvaluationOutcome {
     pub refusal: u64,
     pub answer: AnswerRecord,
@@ -254,7 +296,7 @@ pub struct EvaluationReply {
     pub answer: AnswerRecord,
 }
 
-/// A noise source: tag 0 none, tag 1 from drain to source with its density; and the number of the refusal.
+/// A noise source, [`ABSENT`] or [`PRESENT`], from drain to source with its density; and the number of the refusal.
 #[repr(C)]
 #[derive(Clone, Copy, Debug)]
 pub struct NoiseOutcome {
@@ -265,7 +307,7 @@ pub struct NoiseOutcome {
     pub density: f64,
 }
 
-/// A capacitor between two nodes: tag 0 absent, tag 1 present.
+/// A capacitor between two nodes, [`ABSENT`] or [`PRESENT`].
 #[repr(C)]
 #[derive(Clone, Copy, Debug)]
 pub struct ReactanceRecord {
@@ -275,6 +317,7 @@ pub struct ReactanceRecord {
     pub capacitance: f64,
 }
 
+/// The five capacitors at the operating point, and the number of the refusal.
 #[repr(C)]
 #[derive(Clone, Copy, Debug)]
 pub struct ReactancesOutcome {

@@ -148,7 +148,7 @@ rust_device!(rust_port, with_port);
 
 mod port {
     use super::*;
-    use mivtolgya::{Conditions, Device, Keys, Load, Matrix, Method, Node, Polarity};
+    use mivtolgya::{Conditions, Device, Load, Matrix, Method, Node, Polarity};
 
     pub struct Bound {
         device: Device,
@@ -160,23 +160,12 @@ mod port {
         lengths: Vec<usize>,
     }
 
-    fn with_keys<R>(keys: &[(&str, f64)], call: impl FnOnce(Keys) -> R) -> R {
-        let (mut bytes, mut offsets, mut lengths, mut values) = (Vec::new(), Vec::new(), Vec::new(), Vec::new());
-        for (key, value) in keys {
-            offsets.push(bytes.len());
-            lengths.push(key.len());
-            bytes.extend_from_slice(key.as_bytes());
-            values.push(*value);
-        }
-        call(Keys { bytes: &bytes, offsets: &offsets, lengths: &lengths, values: &values })
-    }
-
     impl Bound {
         pub fn new(case: &Case, rows: usize) -> Bound {
-            let (mut device, _) = with_keys(case.card, |k| Device::from_model_params(Polarity::Nmos, k, &mut [])).unwrap();
-            with_keys(&GEOMETRY, |k| device.set_instance_params(k, &mut [])).unwrap();
+            let (mut device, _) = Device::from_model_params(Polarity::Nmos, case.card, &mut []).unwrap();
+            device.set_instance_params(&GEOMETRY, &mut []).unwrap();
             device.setup_model(KELVIN).unwrap();
-            device.setup_instance(Node::At(0), Node::At(1), Node::At(2), Node::At(3), 4).unwrap();
+            device.setup_instance(Node::Row(0), Node::Row(1), Node::Row(2), Node::Row(3), 4).unwrap();
             let method = if case.transient { Method::Euler(STEP) } else { Method::None };
             let conditions = Conditions { temperature: KELVIN, gmin: GMIN, limiter: true, transient: case.transient, method };
             let rows_columns = columns(rows);

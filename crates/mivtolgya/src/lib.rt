@@ -1,0 +1,232 @@
+// The calls for C and Rust on x86-64 (include/mivtolgya.h). Each takes the caller's record by value and answers the record that is
+// to take its place; a lent slice is a pointer and a length. Each is the call of the same name on records, whose definitions say
+// what is answered and what the lent slices hold afterwards.
+// The three calls of the loop stand here also for a record where it lies, with the same definitions. Those by value call them on a
+// copy: with one caller for each of the large functions below, the compiler makes one function of a call, which reads of the record
+// what it needs and copies nothing.
+use record::DeviceOutcome;
+use record::DeviceRecord;
+use record_card::KeysOutcome;
+use record_setup::CountOutcome;
+use record_setup::NodesRecord;
+use record_small_signal::NoiseOutcome;
+use record_small_signal::ReactancesOutcome;
+use record_steps::ChangesOrRefusal;
+use record_steps::CommitAnswer;
+use record_steps::ConditionsRecord;
+use record_steps::EvaluationOutcome;
+use record_steps::EvaluationReply;
+ghost use mathlib.Core.Path.{_≡_};
+ghost use lib.ListN.{length};
+ghost use Rattle.assembly.specs.Assembly.{Pattern};
+ghost use Rattle.record_card.specs.Keys.{cardCall, cardCallList, geometryCall, geometryCallList};
+ghost use Rattle.record_setup.specs.Setup.{scalingCall, bindingCall, extraNodesCall};
+ghost use Rattle.record_steps.specs.Steps.{evalCall, replyOf, commitCall};
+ghost use Rattle.record_small_signal.specs.SmallSignal.{noiseCall, reactancesCall};
+ghost use Rattle.record_loading.specs.Load.{loadCall, loadedSide, loadedMatrix};
+ghost use Rattle.mivtolgya.specs.Interface.{interfaceVersion, deviceSize};
+
+// What the header's inline check holds a caller's object to.
+#[no_mangle]
+pub extern "C" fn mivtolgya_version() -> u64
+    ensures { λ o. ⌜ o ≡ interfaceVersion ⌝ }
+{
+    1
+}
+
+// The size of the device's record in bytes.
+#[no_mangle]
+pub extern "C" fn mivtolgya_device_size() -> usize
+    ensures { λ o. ⌜ o ≡ deviceSize ⌝ }
+{
+    904
+}
+
+#[no_mangle]
+pub extern "C" fn mivtolgya_from_model_params(
+    old: DeviceRecord,
+    polarity: u64,
+    bytes: &[u8],
+    offsets: &[usize],
+    lengths: &[usize],
+    values: &[f64],
+    unknown: &mut [usize],
+) -> KeysOutcome
+    ensures { λ o. ⌜ (o ≡ cardCall old polarity (now (bytes .entry)) (now (offsets .entry)) (now (lengths .entry)) (now (values .entry)) (length (now (unknown .entry))))
+        × (now (unknown .exit) ≡ cardCallList polarity (now (bytes .entry)) (now (offsets .entry)) (now (lengths .entry)) (now (values .entry)) (now (unknown .entry))) ⌝ }
+{
+    record_card::from_model_params(old, polarity, bytes, offsets, lengths, values, unknown)
+}
+
+#[no_mangle]
+pub extern "C" fn mivtolgya_set_instance_params(
+    device: DeviceRecord,
+    bytes: &[u8],
+    offsets: &[usize],
+    lengths: &[usize],
+    values: &[f64],
+    unknown: &mut [usize],
+) -> KeysOutcome
+    ensures { λ o. ⌜ (o ≡ geometryCall device (now (bytes .entry)) (now (offsets .entry)) (now (lengths .entry)) (now (values .entry)) (length (now (unknown .entry))))
+        × (now (unknown .exit) ≡ geometryCallList device (now (bytes .entry)) (now (offsets .entry)) (now (lengths .entry)) (now (values .entry)) (now (unknown .entry))) ⌝ }
+{
+    record_card::set_instance_params(device, bytes, offsets, lengths, values, unknown)
+}
+
+#[no_mangle]
+pub extern "C" fn mivtolgya_setup_model(device: DeviceRecord, temperature: f64) -> DeviceOutcome
+    ensures { λ o. ⌜ o ≡ scalingCall device temperature ⌝ }
+{
+    record_setup::setup_model(device, temperature)
+}
+
+#[no_mangle]
+pub extern "C" fn mivtolgya_num_extra_nodes(device: DeviceRecord) -> CountOutcome
+    ensures { λ o. ⌜ o ≡ extraNodesCall device ⌝ }
+{
+    record_setup::num_extra_nodes(device)
+}
+
+#[no_mangle]
+pub extern "C" fn mivtolgya_setup_instance(
+    device: DeviceRecord,
+    nodes: NodesRecord,
+    first: usize,
+) -> DeviceOutcome
+    ensures { λ o. ⌜ o ≡ bindingCall device nodes first ⌝ }
+{
+    record_setup::setup_instance(device, nodes, first)
+}
+
+#[no_mangle]
+pub extern "C" fn mivtolgya_eval(
+    device: DeviceRecord,
+    x: &[f64],
+    conditions: ConditionsRecord,
+) -> EvaluationOutcome
+    ensures { λ o. ⌜ o ≡ evalCall device (now (x .entry)) conditions ⌝ }
+{
+    let mut d = device;
+    let reply = mivtolgya_eval_in_place(&mut d, x, conditions);
+    EvaluationOutcome {
+        refusal: reply.refusal,
+        answer: reply.answer,
+        device: d,
+    }
+}
+
+#[no_mangle]
+pub extern "C" fn mivtolgya_load(
+    device: DeviceRecord,
+    transient: u64,
+    alpha: f64,
+    rhs: &mut [f64],
+    values: &mut [f64],
+    columns: &[u32],
+    offsets: &[usize],
+    lengths: &[usize],
+) -> u64
+    ensures { λ o. ⌜ (o ≡ loadCall device transient alpha (record { columns = now (columns .entry); offsets = now (offsets .entry); lengths = now (lengths .entry) }) (now (rhs .entry)) (now (values .entry)))
+        × ((now (rhs .exit) ≡ loadedSide device transient alpha (record { columns = now (columns .entry); offsets = now (offsets .entry); lengths = now (lengths .entry) }) (now (rhs .entry)) (now (values .entry)))
+        × (now (values .exit) ≡ loadedMatrix device transient alpha (record { columns = now (columns .entry); offsets = now (offsets .entry); lengths = now (lengths .entry) }) (now (rhs .entry)) (now (values .entry)))) ⌝ }
+{
+    mivtolgya_load_in_place(
+        &device,
+        transient,
+        alpha,
+        rhs,
+        values,
+        columns,
+        offsets,
+        lengths,
+    )
+}
+
+#[no_mangle]
+pub extern "C" fn mivtolgya_commit_timestep(device: DeviceRecord, x: &[f64]) -> DeviceOutcome
+    ensures { λ o. ⌜ o ≡ commitCall device (now (x .entry)) ⌝ }
+{
+    let mut d = device;
+    let refusal = mivtolgya_commit_in_place(&mut d, x);
+    DeviceOutcome { refusal, device: d }
+}
+
+#[no_mangle]
+pub extern "C" fn mivtolgya_noise_sources(
+    device: DeviceRecord,
+    temperature: f64,
+    freq: f64,
+) -> NoiseOutcome
+    ensures { λ o. ⌜ o ≡ noiseCall device temperature freq ⌝ }
+{
+    record_small_signal::noise_sources(device, temperature, freq)
+}
+
+#[no_mangle]
+pub extern "C" fn mivtolgya_small_signal_reactances(device: DeviceRecord) -> ReactancesOutcome
+    ensures { λ o. ⌜ o ≡ reactancesCall device ⌝ }
+{
+    record_small_signal::small_signal_reactances(device)
+}
+
+// ---- the calls of the loop on a record where it lies
+
+// `mivtolgya_eval`. Only the parts that an evaluation changes are written, and none where it is refused.
+#[no_mangle]
+pub extern "C" fn mivtolgya_eval_in_place(
+    device: &mut DeviceRecord,
+    x: &[f64],
+    conditions: ConditionsRecord,
+) -> EvaluationReply
+    ensures { λ o. ⌜ (o ≡ replyOf (evalCall (now (device .entry)) (now (x .entry)) conditions))
+        × (now (device .exit) ≡ evalCall (now (device .entry)) (now (x .entry)) conditions .device) ⌝ }
+{
+    let old = *device;
+    match record_steps::evaluate(old, x, conditions) {
+        ChangesOrRefusal::Changes(changes) => {
+            device.point = changes.point;
+            device.charges = changes.charges;
+            device.method = changes.method;
+            device.stage = changes.stage;
+            changes.reply
+        }
+        ChangesOrRefusal::Refusal(reply) => reply,
+    }
+}
+
+// `mivtolgya_load`. The record is only read.
+#[no_mangle]
+pub extern "C" fn mivtolgya_load_in_place(
+    device: &DeviceRecord,
+    transient: u64,
+    alpha: f64,
+    rhs: &mut [f64],
+    values: &mut [f64],
+    columns: &[u32],
+    offsets: &[usize],
+    lengths: &[usize],
+) -> u64
+    ensures { λ o. ⌜ (o ≡ loadCall (now (device .entry)) transient alpha (record { columns = now (columns .entry); offsets = now (offsets .entry); lengths = now (lengths .entry) }) (now (rhs .entry)) (now (values .entry)))
+        × ((now (rhs .exit) ≡ loadedSide (now (device .entry)) transient alpha (record { columns = now (columns .entry); offsets = now (offsets .entry); lengths = now (lengths .entry) }) (now (rhs .entry)) (now (values .entry)))
+        × (now (values .exit) ≡ loadedMatrix (now (device .entry)) transient alpha (record { columns = now (columns .entry); offsets = now (offsets .entry); lengths = now (lengths .entry) }) (now (rhs .entry)) (now (values .entry)))) ⌝ }
+{
+    let r = *device;
+    record_loading::load(r, transient, alpha, rhs, values, columns, offsets, lengths)
+}
+
+// `mivtolgya_commit_timestep`. Only the parts that a commit changes are written, and none where it is refused.
+#[no_mangle]
+pub extern "C" fn mivtolgya_commit_in_place(device: &mut DeviceRecord, x: &[f64]) -> u64
+    ensures { λ o. ⌜ (o ≡ commitCall (now (device .entry)) (now (x .entry)) .refusal)
+        × (now (device .exit) ≡ commitCall (now (device .entry)) (now (x .entry)) .device) ⌝ }
+{
+    let old = *device;
+    match record_steps::commit(old, x) {
+        CommitAnswer::Changes(changes) => {
+            device.point = changes.point;
+            device.histories = changes.histories;
+            0
+        }
+        CommitAnswer::Refusal(number) => number,
+    }
+}

@@ -1,0 +1,101 @@
+"""What the sources say: records, exports, numbers, keys. All from crates/, none from the header, the wrapper or docs/."""
+import glob
+import re
+import struct
+
+NUMBERS = {"f64": "double", "u64": "uint64_t", "u32": "uint32_t", "u8": "uint8_t", "usize": "size_t"}
+
+
+def read(path):
+    with open(path, encoding="utf-8") as file:
+        return file.read()
+
+
+def code(path):
+    """A file's lines without comments."""
+    return re.sub(r"(--|//).*", "", read(path))
+
+
+def records():
+    """Every #[repr(C)] struct: its name to its fields in order, each (name, type)."""
+    found = {}
+    for path in sorted(glob.glob("crates/*/src/*.rt")):
+        for name, body in re.findall(r"#\[repr\(C\)\]\npub struct (\w+) \{\n(.*?)\n\}", read(path), re.S):
+            found[name] = [tuple(f.strip().rstrip(",").removeprefix("pub ").split(": ")) for f in body.split("\n")]
+    return found
+
+
+def exports():
+    """Every exported function: its name to (parameters, result), each parameter (name, type)."""
+    found = {}
+    for path in sorted(glob.glob("crates/mivtolgya/src/*.rt")):
+        for name, body, result in re.findall(r'pub extern "C" fn (\w+)\((.*?)\) -> (\w+)', read(path), re.S):
+            parts = filter(None, (p.strip() for p in body.replace("\n", " ").split(",")))
+            found[name] = ([tuple(p.split(": ")) for p in parts], result)
+    return found
+
+
+def size(kind, all_records):
+    return 8 if kind in NUMBERS else sum(size(k, all_records) for _, k in all_records[kind])
+
+
+def tags():
+    """The numbers of stages, nodes, methods, polarities and of what may be absent, by the header's names without MIVTOLGYA_."""
+    text = code("crates/record/specs/Records.antt")
+    found = {"STAGE_" + n.upper(): int(k) for n, k in re.findall(r"stageTag Stage\.(\w+) = (\d+)", text)}
+    for n, k in re.findall(r"methodRecord \(?Discretisation\.(\w+).*?tag = (\d+)", text):
+        found["METHOD_" + n.upper()] = int(k)
+    for n, name in (("Ground", "NODE_GROUND"), (r"\(At i\)", "NODE_ROW")):
+        found[name] = int(re.search(rf"nodeRecord {n} = record {{ tag = (\d+)", text)[1])
+    for n, name in (("Absent", "ABSENT"), (r"\(Value v\)", "PRESENT")):
+        found[name] = int(re.search(rf"givenRecord {n} = record {{ tag = (\d+)", text)[1])
+    pmos = int(re.search(r"cardOf \(eqb polarity (\d+)\)", code("crates/record_card/specs/Keys.antt"))[1])
+    found.update(PMOS=pmos, NMOS=1 - pmos)
+    found["VERSION"] = int(re.search(r"interfaceVersion = (\d+)", code("crates/mivtolgya/specs/Interface.antt"))[1])
+    return found
+
+
+# how definitions name the number of a refusal
+REFUSAL_FORMS = (
+    r"\((\d+) when ",  # a list of rows
+    r"\bRefused (\d+)",  # an answer's case
+    r"refusal = (\d+)",  # an outcome's field
+    r"[rR]efused\w* (?:r )?(\d+)\)",  # an outcome made by a function of its own
+    r"loadNumber .*? (\d+)$",
+)
+ROW_FORMS = (r"cond .*? (\d+)$", r" (\d+) 0\)")  # crates/rows: the number of a row, 0 where none applies
+
+
+def refusals():
+    """Every number under which a definition refuses."""
+    found = set()
+    for path in glob.glob("crates/*/specs/*.antt"):
+        for form in REFUSAL_FORMS + (ROW_FORMS if path == "crates/rows/specs/Rows.antt" else ()):
+            found.update(int(n) for n in re.findall(form, code(path), re.M))
+    return found - {0}
+
+
+def constants(path):
+    """The floats that a file of definitions names, by their bits."""
+    found = {"+0": 0.0, "+1": 1.0}
+    for name, sign, bits in re.findall(r"^(\S+) = (neg \()?ofBits binary64 0x([0-9a-f_]+)", code(path), re.M):
+        value = struct.unpack(">d", bytes.fromhex(bits.replace("_", "")))[0]
+        found[name] = -value if sign else value
+    return found
+
+
+def keys():
+    """Each parameter: its table, its spellings in order, and its range (zero passes too, least, greatest)."""
+    ends = constants("crates/keys/specs/Ranges.antt")
+    ranges = {
+        key: (kind == "ZeroOr", ends[least], ends[greatest])
+        for key, kind, least, greatest in re.findall(r"rangeOf (\w+) = (Within|ZeroOr) (\S+) (\S+)", code("crates/keys/specs/Ranges.antt"))
+    }
+    names = code("crates/keys/specs/Names.antt")
+    found = {}
+    for table in ("card", "geometry"):
+        body = names[names.index(f"{table}Names =") :].split("∷ []")[0]
+        for spelling, meaning in re.findall(r'"(\w*)" means (?:Sets )?(\w+)', body):
+            entry = found.setdefault((table, meaning), {"spellings": [], "range": ranges.get(meaning)})
+            entry["spellings"].append(spelling)
+    return found
