@@ -3,3 +3,4 @@ pub mod Stamps
 pub mod Evaluations
 pub mod Charges
 pub mod Currents
+pub mod WithinLists

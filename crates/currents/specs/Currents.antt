@@ -1,7 +1,7 @@
 -- Demand 3: one claim about every list of calls. Quotations are from document 01, "What demand 3 measures".
 use mathlib.Core.Path.{_≡_}
 use mathlib.Core.Bool.{true, false}
-use mathlib.Core.List.{List}
+use mathlib.Core.List.{List, _∷_, _++_}
 use lib.Ieee.{Float}
 use Rattle.exact.specs.Float64.{_⊖_, _⊗_}
 use Rattle.device.specs.declared.ChargeHistory.{ChargeHistory}
@@ -14,7 +14,7 @@ use Rattle.loading.specs.Loading.{Loaded, branchesOf}
 use Rattle.loading.specs.declared.LoadKind.{LoadKind}
 use Rattle.loading.specs.declared.LoadKind.the-variants.{DirectCurrent, Transient}
 use Rattle.device.specs.Refusals.{done}
-use Rattle.call_lists.specs.Calls.{Call, run}
+use Rattle.call_lists.specs.Calls.{Call, run, loading, answer, loadingAnswer}
 use Rattle.call_lists.specs.F64.{Every, IsF64, Fresh}
 use Rattle.call_lists.specs.LastEvaluation.{EvaluationMade, made, lastEvaluation, voltagesAt, answerAt, chargesAt}
 use Rattle.call_lists.specs.Recount.{recount}
@@ -124,3 +124,12 @@ EveryLoadHolds =
     (d : Mosfet1) → Fresh d → (calls : List Call) → Every IsF64 calls
     → (kind : LoadKind) (P : Pattern) (rhs values rhs' values' : List Float) → Loaded (run calls d) kind P rhs values (done tt) rhs' values'
     → LoadHolds calls d kind P rhs values rhs' values'
+
+-- The same of a load inside a list: wherever a list of calls is split at a load that is accepted there, on the device that the calls
+-- before it leave, the claims hold of that load, whatever calls follow it. What its slices hold at exit is in its answer.
+abbrev pub EveryLoadInAListHolds : Type 0
+EveryLoadInAListHolds =
+    (d : Mosfet1) → Fresh d → (calls : List Call) → Every IsF64 calls
+    → (prefix rest : List Call) (kind : LoadKind) (P : Pattern) (rhs values rhs' values' : List Float) → calls ≡ prefix ++ (loading kind P rhs values ∷ rest)
+    → answer (loading kind P rhs values) (run prefix d) ≡ loadingAnswer (done tt) rhs' values'
+    → LoadHolds prefix d kind P rhs values rhs' values'
