@@ -9,16 +9,16 @@ use Rattle.hex.specs.Hex.{bitsAt}
 use Rattle.hex.specs.declared.read.Bits.{Bits}
 use Rattle.hex.specs.declared.read.Bits.the-variants.{Is, Not}
 use Rattle.model.specs.Calls.{evalOf}
-use Rattle.model.specs.declared.calls.Evaluation.{Evaluation}
-use Rattle.model.specs.declared.calls.Evaluation.the-variants.{Done, Refused}
+use Rattle.device.specs.Refusals.{Outcome, done, refused}
+use Rattle.mosfet1.specs.declared.steps.Evaluated.{Evaluated}
 use Rattle.curve_text.specs.declared.Point.{Point}
 use Rattle.curve_text.specs.declared.Point.the-variants.{Good, Bad}
 use Rattle.channel_curve.specs.Reference.{the-device, the-conditions}
 
 -- the operating point that an evaluation leaves; a refused one (row 9) is bad
-unfoldable pub answered : Evaluation → Point
-answered (Done e) = Good (e .device .point)
-answered (Refused n) = Bad
+unfoldable pub answered : Outcome Evaluated → Point
+answered (done e) = Good (e .device .point)
+answered (refused n) = Bad
 
 -- the reference device with its gate at vgs and its drain at vds
 unfoldable pub pointAt : Float → Float → Point

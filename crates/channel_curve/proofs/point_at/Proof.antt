@@ -6,9 +6,8 @@ use lib.Ieee.{Float}
 use Rattle.device.specs.declared.Mosfet1.{Mosfet1}
 use Rattle.mosfet1.specs.declared.steps.Conditions.{Conditions}
 use mathlib.Core.List.{List, [], _∷_}
-use Rattle.model.specs.Calls.{evalOf}
+use Rattle.model.specs.Calls.{outcomeOfEvaluation, evalOf}
 use Rattle.model.specs.declared.calls.Evaluation.{Evaluation}
-use Rattle.model.specs.declared.calls.Evaluation.the-variants.{Done, Refused}
 use Rattle.channel_curve.specs.Reference.{the-device, the-conditions}
 use Rattle.channel_curve.specs.Curve.{answered, pointAt}
 use borrow.Author.Needs.{needs}
@@ -22,9 +21,9 @@ use Rattle.model.proofs.calls.eval.Reads as eval-reads
 
 -- what an evaluation of the reference device found is what the definition answers
 answer : {d : Mosfet1} {k : Conditions} {a q : Evaluation} (x : List Float) →
-    d ≡ the-device → k ≡ the-conditions → a ≡ evalOf d x false k → a ≡ q →
-    answered q ≡ answered (evalOf the-device x false the-conditions)
-answer x device conditions called found = ap answered (sym found ∙ (called ∙ (λ i. evalOf (device i) x false (conditions i))))
+    d ≡ the-device → k ≡ the-conditions → outcomeOfEvaluation a ≡ evalOf d x false k → a ≡ q →
+    answered (outcomeOfEvaluation q) ≡ answered (evalOf the-device x false the-conditions)
+answer x device conditions called found = ap answered (sym (ap outcomeOfEvaluation found) ∙ (called ∙ (λ i. evalOf (device i) x false (conditions i))))
 
 device-requires : tie.Need-device-requires
 device-requires c κs = search needs
