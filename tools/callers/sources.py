@@ -51,7 +51,7 @@ def tags():
         found[name] = int(re.search(rf"givenRecord {n} = record {{ tag = (\d+)", text)[1])
     pmos = int(re.search(r"cardOf \(eqb polarity (\d+)\)", code("crates/record_card/specs/Keys.antt"))[1])
     found.update(PMOS=pmos, NMOS=1 - pmos)
-    found["VERSION"] = int(re.search(r"interfaceVersion = (\d+)", code("crates/mivtolgya/specs/Interface.antt"))[1])
+    found["VERSION"] = int(re.search(r"interfaceVersion = (\d+)", code("crates/interface/specs/Interface.antt"))[1])
     return found
 
 
