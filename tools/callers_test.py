@@ -42,7 +42,7 @@ def main():
     all_records, all_exports = sources.records(), sources.exports()
     failures = [failed(lambda _: texts.check(all_records, all_exports))]
     if fit_for_programs():
-        failures.append(failed(lambda folder: c_part.check(folder, all_records, all_exports, texts.check_using())))
+        failures.append(failed(lambda folder: c_part.check(folder, all_records, all_exports, texts.check_keys(sources.read(texts.USING)))))
         failures.append(failed(rust_part.check))
     if any(failures):
         sys.exit("callers: FAILED")

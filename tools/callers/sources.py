@@ -55,24 +55,38 @@ def tags():
     return found
 
 
-# how definitions name the number of a refusal
-REFUSAL_FORMS = (
-    r"\((\d+) when ",  # a list of rows
-    r"\bRefused (\d+)",  # an answer's case
-    r"refusal = (\d+)",  # an outcome's field
-    r"[rR]efused\w* (?:r )?(\d+)\)",  # an outcome made by a function of its own
-    r"loadNumber .*? (\d+)$",
-)
-ROW_FORMS = (r"cond .*? (\d+)$", r" (\d+) 0\)")  # crates/rows: the number of a row, 0 where none applies
+# the definitions that list a call's rows
+ROWS = {
+    "card": ["entries/specs/Entries keyRows", "card/specs/Card cardRows"],
+    "geometry": ["entries/specs/Entries keyRows", "geometry/specs/Geometry geometryRows"],
+    "scaling": ["setup/specs/Scaling scalingOf"],
+    "binding": ["setup/specs/Binding bindingOf"],
+    "evaluation": ["rows/specs/Rows evalRowOf"],
+    "load": ["loading/specs/Loading loadAnswer"],
+    "commit": ["rows/specs/Rows commitRowOf"],
+    "noise": ["rows/specs/Rows noiseRowOf"],
+    "reactances": ["model/specs/SmallSignal reactancesOf"],
+}
 
 
-def refusals():
-    """Every number under which a definition refuses."""
+def rows():
+    """Under which numbers each call refuses, by its definition: `(N when ..)`, `Refused N`, or `cond (..) N`."""
+    found = {}
+    for call, places in ROWS.items():
+        for path, name in (place.split() for place in places):
+            text = re.search(rf"^{name} .*=((?:.|\n)*?)\n(?:\n|$)", code(f"crates/{path}.antt"), re.M)[1]
+            numbers = re.findall(r"\((\d+) when|Refused (\d+)|\) (\d+)\b", text)
+            found.setdefault(call, set()).update(int(n) for groups in numbers for n in groups if n)
+    return found
+
+
+def unknown_tag():
+    """The number for an unknown tag, the same in the definition of every call on a record."""
     found = set()
-    for path in glob.glob("crates/*/specs/*.antt"):
-        for form in REFUSAL_FORMS + (ROW_FORMS if path == "crates/rows/specs/Rows.antt" else ()):
-            found.update(int(n) for n in re.findall(form, code(path), re.M))
-    return found - {0}
+    for path in glob.glob("crates/record_*/specs/*.antt"):
+        found.update(re.findall(r"refusal = (\d+)|[rR]efused\w* (?:r )?(\d+)\)", code(path)))
+    (number,) = {int(n) for groups in found for n in groups if n} - {0}
+    return number
 
 
 def constants(path):
