@@ -623,56 +623,61 @@ static inline uint64_t mivtolgya_lay_out(
 #define MIVTOLGYA_KEY_SPACE 64
 #define MIVTOLGYA_BYTE_SPACE 512
 
-/* A card from keys with their values, stored in the record where it is accepted. No key may be unknown: one is answered as
- * MIVTOLGYA_REFUSED_UNKNOWN_KEYS. Whoever takes cards with unknown keys calls mivtolgya_from_model_params. */
-static inline uint64_t mivtolgya_read_card(mivtolgya_device *device, uint64_t polarity, const mivtolgya_key *keys, size_t count) {
-    uint8_t bytes[MIVTOLGYA_BYTE_SPACE];
-    size_t offsets[MIVTOLGYA_KEY_SPACE], lengths[MIVTOLGYA_KEY_SPACE], unknown[1], end;
+typedef struct {
+    size_t offsets[MIVTOLGYA_KEY_SPACE];
+    size_t lengths[MIVTOLGYA_KEY_SPACE];
     double values[MIVTOLGYA_KEY_SPACE];
-    uint64_t refusal = mivtolgya_lay_out(keys, count, bytes, sizeof bytes, offsets, lengths, values, MIVTOLGYA_KEY_SPACE, &end);
+    uint8_t bytes[MIVTOLGYA_BYTE_SPACE];
+    size_t end;
+    size_t unknown[1];
+} mivtolgya_key_room;
+
+static inline uint64_t mivtolgya_fill(mivtolgya_key_room *room, const mivtolgya_key *keys, size_t count) {
+    return mivtolgya_lay_out(keys, count, room->bytes, MIVTOLGYA_BYTE_SPACE, room->offsets, room->lengths, room->values,
+                             MIVTOLGYA_KEY_SPACE, &room->end);
+}
+
+/* Stores what a call answered where it was accepted, and hands its number on. */
+static inline uint64_t mivtolgya_keep(mivtolgya_device *device, uint64_t refusal, const mivtolgya_device *answered) {
     if (refusal == MIVTOLGYA_ACCEPTED) {
-        mivtolgya_keys_outcome o =
-            mivtolgya_from_model_params(*device, polarity, bytes, end, offsets, count, lengths, count, values, count, unknown, 0);
-        refusal = o.refusal;
-        if (refusal == MIVTOLGYA_ACCEPTED) {
-            *device = o.device;
-        }
+        *device = *answered;
     }
     return refusal;
 }
 
+/* A card from keys with their values, stored in the record where it is accepted. No key may be unknown: one is answered as
+ * MIVTOLGYA_REFUSED_UNKNOWN_KEYS. Whoever takes cards with unknown keys calls mivtolgya_from_model_params. */
+static inline uint64_t mivtolgya_read_card(mivtolgya_device *device, uint64_t polarity, const mivtolgya_key *keys, size_t count) {
+    mivtolgya_key_room k;
+    mivtolgya_keys_outcome o;
+    if (mivtolgya_fill(&k, keys, count) != MIVTOLGYA_ACCEPTED) {
+        return MIVTOLGYA_NO_ROOM;
+    }
+    o = mivtolgya_from_model_params(
+        *device, polarity, k.bytes, k.end, k.offsets, count, k.lengths, count, k.values, count, k.unknown, 0);
+    return mivtolgya_keep(device, o.refusal, &o.device);
+}
+
 /* A geometry likewise. */
 static inline uint64_t mivtolgya_read_geometry(mivtolgya_device *device, const mivtolgya_key *keys, size_t count) {
-    uint8_t bytes[MIVTOLGYA_BYTE_SPACE];
-    size_t offsets[MIVTOLGYA_KEY_SPACE], lengths[MIVTOLGYA_KEY_SPACE], unknown[1], end;
-    double values[MIVTOLGYA_KEY_SPACE];
-    uint64_t refusal = mivtolgya_lay_out(keys, count, bytes, sizeof bytes, offsets, lengths, values, MIVTOLGYA_KEY_SPACE, &end);
-    if (refusal == MIVTOLGYA_ACCEPTED) {
-        mivtolgya_keys_outcome o =
-            mivtolgya_set_instance_params(*device, bytes, end, offsets, count, lengths, count, values, count, unknown, 0);
-        refusal = o.refusal;
-        if (refusal == MIVTOLGYA_ACCEPTED) {
-            *device = o.device;
-        }
+    mivtolgya_key_room k;
+    mivtolgya_keys_outcome o;
+    if (mivtolgya_fill(&k, keys, count) != MIVTOLGYA_ACCEPTED) {
+        return MIVTOLGYA_NO_ROOM;
     }
-    return refusal;
+    o = mivtolgya_set_instance_params(*device, k.bytes, k.end, k.offsets, count, k.lengths, count, k.values, count, k.unknown, 0);
+    return mivtolgya_keep(device, o.refusal, &o.device);
 }
 
 /* mivtolgya_setup_model and mivtolgya_setup_instance, stored in the record where they are accepted. */
 static inline uint64_t mivtolgya_scale(mivtolgya_device *device, double temperature) {
     mivtolgya_device_outcome o = mivtolgya_setup_model(*device, temperature);
-    if (o.refusal == MIVTOLGYA_ACCEPTED) {
-        *device = o.device;
-    }
-    return o.refusal;
+    return mivtolgya_keep(device, o.refusal, &o.device);
 }
 
 static inline uint64_t mivtolgya_bind(mivtolgya_device *device, mivtolgya_nodes nodes, size_t first) {
     mivtolgya_device_outcome o = mivtolgya_setup_instance(*device, nodes, first);
-    if (o.refusal == MIVTOLGYA_ACCEPTED) {
-        *device = o.device;
-    }
-    return o.refusal;
+    return mivtolgya_keep(device, o.refusal, &o.device);
 }
 
 #ifdef __cplusplus

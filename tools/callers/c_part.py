@@ -77,7 +77,7 @@ def check_example(folder, compiler, standard, language):
 
 def check_program(folder, name):
     binary = os.path.join(folder, name)
-    run(*C11, f"c/{name}.c", ARCHIVE, "-o", binary)
+    run(*C11, f"c/{name}.c", ARCHIVE, "-lm", "-o", binary)
     return run(binary)
 
 
@@ -179,7 +179,8 @@ def check_unfit(folder):
         if not said.startswith(f"this program cannot go on: {number}, "):
             raise AssertionError(f"expected {number} at once; the example said\n{said}")
         os.remove(os.path.join(folder, "mivtolgya.h"))
-    print("callers: another interface, another record and -ffast-math are told before the first call")
+    check_program(folder, "floating_point")
+    print("callers: another interface, another record and another floating-point environment are told before the first call")
 
 
 def check_readme(folder):

@@ -51,28 +51,41 @@ def tags():
         found[name] = int(re.search(rf"givenRecord {n} = record {{ tag = (\d+)", text)[1])
     pmos = int(re.search(r"cardOf \(eqb polarity (\d+)\)", code("crates/record_card/specs/Keys.antt"))[1])
     found.update(PMOS=pmos, NMOS=1 - pmos)
-    found["VERSION"] = int(re.search(r"interfaceVersion = (\d+)", code("crates/mivtolgya/specs/Interface.antt"))[1])
+    found["VERSION"] = int(re.search(r"interfaceVersion = (\d+)", code("crates/interface/specs/Interface.antt"))[1])
     return found
 
 
-# how definitions name the number of a refusal
-REFUSAL_FORMS = (
-    r"\((\d+) when ",  # a list of rows
-    r"\bRefused (\d+)",  # an answer's case
-    r"refusal = (\d+)",  # an outcome's field
-    r"[rR]efused\w* (?:r )?(\d+)\)",  # an outcome made by a function of its own
-    r"loadNumber .*? (\d+)$",
-)
-ROW_FORMS = (r"cond .*? (\d+)$", r" (\d+) 0\)")  # crates/rows: the number of a row, 0 where none applies
+# the definitions that list a call's rows
+ROWS = {
+    "card": ["entries/specs/Entries keyRows", "card/specs/Card cardRows"],
+    "geometry": ["entries/specs/Entries keyRows", "geometry/specs/Geometry geometryRows"],
+    "scaling": ["setup/specs/Scaling scalingRows"],
+    "binding": ["setup/specs/Binding bindingRows"],
+    "evaluation": ["rows/specs/Rows evalRows"],
+    "load": ["loading/specs/Loading loadRows"],
+    "commit": ["rows/specs/Rows commitRows"],
+    "noise": ["rows/specs/Rows noiseRows"],
+    "reactances": ["rows/specs/Rows reactanceRows"],
+}
 
 
-def refusals():
-    """Every number under which a definition refuses."""
+def rows():
+    """Under which numbers each call refuses, by its list of rows: `(N when ..)`."""
+    found = {}
+    for call, places in ROWS.items():
+        for path, name in (place.split() for place in places):
+            text = re.search(rf"^{name} .*=((?:.|\n)*?)\n(?:\n|$)", code(f"crates/{path}.antt"), re.M)[1]
+            found.setdefault(call, set()).update(int(n) for n in re.findall(r"\((\d+) when", text))
+    return found
+
+
+def unknown_tag():
+    """The number for an unknown tag, the same in the definition of every call on a record."""
     found = set()
-    for path in glob.glob("crates/*/specs/*.antt"):
-        for form in REFUSAL_FORMS + (ROW_FORMS if path == "crates/rows/specs/Rows.antt" else ()):
-            found.update(int(n) for n in re.findall(form, code(path), re.M))
-    return found - {0}
+    for path in glob.glob("crates/record_*/specs/*.antt"):
+        found.update(re.findall(r"refusal = (\d+)|[rR]efused\w* (?:r )?(\d+)\)", code(path)))
+    (number,) = {int(n) for groups in found for n in groups if n} - {0}
+    return number
 
 
 def constants(path):

@@ -30,7 +30,8 @@ def check_numbers():
     header = header_numbers()
     refused = {n.removeprefix("REFUSED_"): k for n, k in header.items() if n.startswith("REFUSED_")}
     others = {n: k for n, k in header.items() if not n.startswith("REFUSED_")}
-    same("refusals of header and sources", sorted(refused.values()), sorted(sources.refusals()))
+    numbers_of_sources = set().union(*sources.rows().values()) | {sources.unknown_tag()}
+    same("refusals of header and sources", sorted(refused.values()), sorted(numbers_of_sources))
     same("numbers of header and sources", others, {**sources.tags(), **OWN, "ACCEPTED": 0})
     wrapper = {n: int(k) for n, k in re.findall(r"pub const (\w+): u64 = (\d+);", read(RECORDS))}
     same("constants of wrapper and sources", wrapper, sources.tags())
@@ -95,15 +96,23 @@ def numbers(cell):
     return [float(n) for n in re.findall(r"-?\d[\d.]*(?:e-?\d+)?", cell.replace("−", "-"))]
 
 
-def check_using():
-    """The tables of refusals and keys in USING; answers the rows of keys with their ranges and defaults."""
-    text = read(USING)
-    rows = {ticked(r[1])[0]: (int(r[0]), ticked(r[2])[0]) for r in table_after(text, "## Refusals")}
+def check_refusals(text):
+    """USING's table of refusals: the header's names and numbers, and the calls that refuse so."""
+    table = table_after(text, "## Refusals")
     refused = {n.removeprefix("REFUSED_"): k for n, k in header_numbers().items() if n.startswith("REFUSED_")}
-    same("refusals of USING and header", rows, {n: (k, camel(n)) for n, k in refused.items()})
+    names = {ticked(row[1])[0]: (int(row[0]), ticked(row[2])[0]) for row in table}
+    same("refusals of USING and header", names, {n: (k, camel(n)) for n, k in refused.items()})
+    calls = {int(row[0]): set(row[3].split(", ")) for row in table}
+    same("who refuses an unknown tag", calls.pop(sources.unknown_tag()), {"all"})
+    by_call = sources.rows()
+    same("who refuses, in USING and sources", calls, {n: {c for c in by_call if n in by_call[c]} for n in calls})
     for name, number in OWN.items():
         if f"`{name}`" not in text:
             raise AssertionError(f"USING does not name {name}, {number}")
+
+
+def check_keys(text):
+    """USING's tables of keys: spellings and ranges. Answers their rows."""
     known = sources.keys()
     listed = []
     for table in ("card", "geometry"):
@@ -123,7 +132,8 @@ def check(all_records, all_exports):
     names, refused = check_numbers()
     check_records(all_records)
     check_exports(all_exports)
-    listed = check_using()
+    check_refusals(read(USING))
+    listed = check_keys(read(USING))
     print(
         f"callers: {len(all_records)} records, {len(all_exports)} exports, {names} constants, {refused} refusals and "
         f"{len(listed)} keys of header, wrapper and USING are the sources'"

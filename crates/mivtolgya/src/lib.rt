@@ -24,14 +24,14 @@ ghost use Rattle.record_setup.specs.Setup.{scalingCall, bindingCall, extraNodes
 ghost use Rattle.record_steps.specs.Steps.{evalCall, replyOf, commitCall};
 ghost use Rattle.record_small_signal.specs.SmallSignal.{noiseCall, reactancesCall};
 ghost use Rattle.record_loading.specs.Load.{loadCall, loadedSide, loadedMatrix};
-ghost use Rattle.mivtolgya.specs.Interface.{interfaceVersion, deviceSize};
+ghost use Rattle.interface.specs.Interface.{interfaceVersion, deviceSize};
 
 // What the header's inline check holds a caller's object to.
 #[no_mangle]
 pub extern "C" fn mivtolgya_version() -> u64
     ensures { λ o. ⌜ o ≡ interfaceVersion ⌝ }
 {
-    1
+    interface::version()
 }
 
 // The size of the device's record in bytes.
@@ -39,7 +39,7 @@ pub extern "C" fn mivtolgya_version() -> u64
 pub extern "C" fn mivtolgya_device_size() -> usize
     ensures { λ o. ⌜ o ≡ deviceSize ⌝ }
 {
-    904
+    interface::device_size()
 }
 
 #[no_mangle]
