@@ -1,4 +1,5 @@
 use mathlib.Core.Path.{_≡_, sym, _∙_, ap}
+use native.Mathlib.Omega.{arith}
 use Rattle.script.specs.Number.{wholeOf, beforeColon, afterColon}
 use Rattle.script.specs.declared.number.Whole.the-variants as Whole
 use Rattle.script.proofs.Colon.{no-colon, colon, before-is, after-is}
@@ -17,7 +18,7 @@ until-requires c κs = search needs
 returns : tie.Need-returns
 unfolding pairOf
 returns c =
-    simp (no-colon (c .before .before .before .args .w .now) (c .before .until .result) (c .before .until .ensures .1 .1) (c .if1 .taken))
+    simp (no-colon (c .before .before .before .args .w .now) (c .before .until .result) (c .before .until .ensures .1 .1) (omega arith))
 
 add-after : tie.Need-add-after
 add-after c = search needs
@@ -44,7 +45,7 @@ returns-2 : tie.Need-returns-2
 unfolding pairOf bothWhole
 returns-2 c =
     let w = c .before .before .before .before .before .before .before .args .w .now in let U = c .before .before .before .before .before .until in
-    let split = colon w (U .result) (U .ensures .1 .1) (c .before .before .before .before .if1 .left) in
+    let split = colon w (U .result) (U .ensures .1 .1) (omega arith) in
     let first : wholeOf (beforeColon w) ≡ Whole.Not = ap wholeOf (sym (before-is w (U .result) (U .ensures .1 .1))) ∙ sym (c .before .before .read-whole .ensures) ∙ c .enum-told .given .1 in
     simp (split, first)
 
@@ -70,7 +71,7 @@ returns-3 : tie.Need-returns-3
 unfolding pairOf bothWhole
 returns-3 c =
     let w = c .before .before .before .before .before .before .before .before .before .before .before .before .args .w .now in let U = c .before .before .before .before .before .before .before .before .before .before .until in
-    let split = colon w (U .result) (U .ensures .1 .1) (c .before .before .before .before .before .before .before .before .before .if1 .left) in
+    let split = colon w (U .result) (U .ensures .1 .1) (omega arith) in
     let first : wholeOf (beforeColon w) ≡ Whole.Is (c .before .before .before .before .before .offset .given .0 .0) = ap wholeOf (sym (before-is w (U .result) (U .ensures .1 .1))) ∙ sym (c .before .before .before .before .before .before .before .read-whole .ensures) ∙ c .before .before .before .before .before .offset .given .1 in
     let second : wholeOf (afterColon w) ≡ Whole.Not = ap wholeOf (sym (after-is w (U .result) (U .ensures .1 .1))) ∙ sym (c .before .before .read-whole2 .ensures) ∙ c .enum-told2 .given .1 in
     simp (split, first, second)
@@ -79,7 +80,7 @@ returns-4 : tie.Need-returns-4
 unfolding pairOf bothWhole
 returns-4 c =
     let w = c .before .before .before .before .before .before .before .before .before .before .before .before .before .args .w .now in let U = c .before .before .before .before .before .before .before .before .before .before .before .until in
-    let split = colon w (U .result) (U .ensures .1 .1) (c .before .before .before .before .before .before .before .before .before .before .if1 .left) in
+    let split = colon w (U .result) (U .ensures .1 .1) (omega arith) in
     let first : wholeOf (beforeColon w) ≡ Whole.Is (c .before .before .before .before .before .before .offset .given .0 .0) = ap wholeOf (sym (before-is w (U .result) (U .ensures .1 .1))) ∙ sym (c .before .before .before .before .before .before .before .before .read-whole .ensures) ∙ c .before .before .before .before .before .before .offset .given .1 in
     let second : wholeOf (afterColon w) ≡ Whole.Is (c .before .length .given .0 .0) = ap wholeOf (sym (after-is w (U .result) (U .ensures .1 .1))) ∙ sym (c .before .before .before .read-whole2 .ensures) ∙ c .before .length .given .1 in
     simp (split, first, second)
