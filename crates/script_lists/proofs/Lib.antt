@@ -2,3 +2,4 @@ pub mod Filling
 pub mod Cutting
 pub mod Reading
 pub mod Digits
+pub mod Counts
