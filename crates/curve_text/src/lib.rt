@@ -20,24 +20,24 @@ fn put_column(out: &mut [u8], at: usize, x: f64, behind: &[u8]) -> usize
     hex::put_text(out, n, behind)
 }
 
-fn put_point(out: &mut [u8], p: OperatingPoint) -> usize
-    ensures { λ r. ⌜ r ≡ endOf (length (now (out .entry))) 0 (pointText p) ⌝ }
-    ensures { λ r. ⌜ now (out .exit) ≡ textAt (now (out .entry)) 0 (pointText p) ⌝ }
+fn put_point(out: &mut [u8], at: usize, p: OperatingPoint) -> usize
+    ensures { λ r. ⌜ r ≡ endOf (length (now (out .entry))) at (pointText p) ⌝ }
+    ensures { λ r. ⌜ now (out .exit) ≡ textAt (now (out .entry)) at (pointText p) ⌝ }
 {
-    let a = put_column(out, 0, p.ids_eval, b" ");
+    let a = put_column(out, at, p.ids_eval, b" ");
     let b = put_column(out, a, p.gm, b" ");
     let c = put_column(out, b, p.gds, b" ");
     let d = put_column(out, c, p.gmbs, b" ");
     put_column(out, d, p.jeq, b"\n")
 }
 
-// The answer line of a point, from the start of out on.
-pub fn put_answer(out: &mut [u8], p: Point) -> usize
-    ensures { λ r. ⌜ r ≡ endOf (length (now (out .entry))) 0 (answerText p) ⌝ }
-    ensures { λ r. ⌜ now (out .exit) ≡ textAt (now (out .entry)) 0 (answerText p) ⌝ }
+// The answer line of a point, from at on.
+pub fn put_answer(out: &mut [u8], at: usize, p: Point) -> usize
+    ensures { λ r. ⌜ r ≡ endOf (length (now (out .entry))) at (answerText p) ⌝ }
+    ensures { λ r. ⌜ now (out .exit) ≡ textAt (now (out .entry)) at (answerText p) ⌝ }
 {
     match p {
-        Point::Good(at) => put_point(out, at),
-        Point::Bad => hex::put_text(out, 0, b"bad\n"),
+        Point::Good(q) => put_point(out, at, q),
+        Point::Bad => hex::put_text(out, at, b"bad\n"),
     }
 }

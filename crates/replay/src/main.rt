@@ -1,6 +1,16 @@
 // Runs a script of calls: reads a command a line and writes an answer line for each, beside which the Rust's answers can be held.
+mod command;
+mod commands;
+mod device_calls;
+mod device_text;
+mod function_calls;
+mod key_calls;
+mod key_lists;
+mod load_calls;
+mod replies;
+
+use crate::replies::Session;
 use card::CardAnswer;
-use replies::Session;
 
 // What is kept between two reads: the session, how many bytes of the line that is being read there are (65,537 stands for more
 // than a line has), and whether the input is over.

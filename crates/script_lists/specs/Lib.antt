@@ -1,1 +1,2 @@
-pub mod Count
+pub mod Lists
+pub mod Items

@@ -6,8 +6,7 @@ use lib.ListN.{length, take, drop, getD}
 use Rattle.hex.specs.Text.{endOf, textAt, numberText}
 use lib.Ieee.{nan}
 use Rattle.answers.specs.Text.{nextText, eachText}
-use Rattle.hex.proofs.Joining.{Written}
-use Rattle.answers.proofs.Joining.{Left, begun, further, finished, left-is}
+use Rattle.hex.proofs.Joining.{Written, Left, begun, further, finished, left-is}
 use Rattle.answers.proofs.Lists.{each-first, each-end}
 use borrow.Author.Needs.{needs}
 use Rattle.answers.proofs.put_each.Statement.{statement}

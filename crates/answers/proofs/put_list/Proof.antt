@@ -6,8 +6,7 @@ use lib.ListN.{length, take, drop, getD}
 use Rattle.hex.specs.Text.{endOf, textAt, numberText}
 use lib.Ieee.{nan}
 use Rattle.answers.specs.Text.{nextText, itemText, itemsText, listText}
-use Rattle.hex.proofs.Joining.{Written, joined, length-text}
-use Rattle.answers.proofs.Joining.{Left, begun, further, finished, left-is}
+use Rattle.hex.proofs.Joining.{Written, joined, length-text, Left, begun, further, finished, left-is}
 use Rattle.answers.proofs.Lists.{items-first, items-end, list-empty, list-first}
 use borrow.Author.Needs.{needs}
 use Rattle.answers.proofs.put_list.Statement.{statement}

@@ -5,8 +5,7 @@ use native.Mathlib.Omega.{arith}
 use lib.ListN.{length, take, drop, getD}
 use Rattle.hex.specs.Text.{endOf, textAt, numberText}
 use Rattle.answers.specs.Text.{nextWholeText, placesText}
-use Rattle.hex.proofs.Joining.{Written}
-use Rattle.answers.proofs.Joining.{Left, begun, further, finished, left-is}
+use Rattle.hex.proofs.Joining.{Written, Left, begun, further, finished, left-is}
 use Rattle.answers.proofs.Lists.{places-first, places-end}
 use borrow.Author.Needs.{needs}
 use Rattle.answers.proofs.put_places.Statement.{statement}

@@ -18,14 +18,14 @@ use Rattle.hex.proofs.float_of.Reads as float-of-reads
 
 returns : tie.Need-returns
 unfolding pointOf bothRead
-returns c = simp (ne-eqb _ _ (c .if1 .taken))
+returns c = simp (ne-eqb _ 33 (c .if1 .taken))
 
 shared-slice-read-if2 : tie.Need-shared-slice-read-if2
 shared-slice-read-if2 c = search needs
 
 returns-2 : tie.Need-returns-2
 unfolding pointOf bothRead
-returns-2 c = simp (eq-eqb _ _ (c .before .before .if1 .left), ne-eqb _ _ (c .if2 .taken))
+returns-2 c = simp (eq-eqb _ 33 (c .before .before .if1 .left), ne-eqb _ 32 (c .if2 .taken))
 
 bits-at-requires : tie.Need-bits-at-requires
 bits-at-requires c κs = search needs
@@ -40,7 +40,7 @@ returns-3 : tie.Need-returns-3
 unfolding pointOf bothRead
 returns-3 c =
     let none : bitsAt (c .before .before .before .before .before .before .before .args .line .now) 0 ≡ Not = sym (c .before .before .bits-at .ensures) ∙ c .enum-told .given .1 in
-    simp (eq-eqb _ _ (c .before .before .before .before .before .if1 .left), eq-eqb _ _ (c .before .before .before .if2 .left), none)
+    simp (eq-eqb _ 33 (c .before .before .before .before .before .if1 .left), eq-eqb _ 32 (c .before .before .before .if2 .left), none)
 
 bits-at-requires-2 : tie.Need-bits-at-requires-2
 bits-at-requires-2 c κs = search needs
@@ -57,7 +57,7 @@ returns-4 c =
     let line = c .before .before .before .before .before .before .before .before .before .before .before .args .line .now in
     let first : bitsAt line 0 ≡ Is (c .before .before .before .before .g .given .0 .0) = sym (c .before .before .before .before .before .before .bits-at .ensures) ∙ c .before .before .before .before .g .given .1 in
     let none : bitsAt line 17 ≡ Not = sym (c .before .before .bits-at2 .ensures) ∙ c .enum-told2 .given .1 in
-    simp (eq-eqb _ _ (c .before .before .before .before .before .before .before .before .before .if1 .left), eq-eqb _ _ (c .before .before .before .before .before .before .before .if2 .left), first, none)
+    simp (eq-eqb _ 33 (c .before .before .before .before .before .before .before .before .before .if1 .left), eq-eqb _ 32 (c .before .before .before .before .before .before .before .if2 .left), first, none)
 
 float-of-requires : tie.Need-float-of-requires
 float-of-requires c κs = search needs
@@ -75,7 +75,7 @@ returns-5 c =
     let first : bitsAt line 0 ≡ Is (c .before .before .before .before .before .before .before .before .g .given .0 .0) = sym (c .before .before .before .before .before .before .before .before .before .before .bits-at .ensures) ∙ c .before .before .before .before .before .before .before .before .g .given .1 in
     let second : bitsAt line 17 ≡ Is (c .before .before .before .before .d .given .0 .0) = sym (c .before .before .before .before .before .before .bits-at2 .ensures) ∙ c .before .before .before .before .d .given .1 in
     let answer : c .point-at .result ≡ pointAt (ofBits binary64 (c .before .before .before .before .before .before .before .before .g .given .0 .0)) (ofBits binary64 (c .before .before .before .before .d .given .0 .0)) = rw (c .before .before .float-of .ensures, c .before .float-of2 .ensures) at (c .point-at .ensures) in
-    simp (eq-eqb _ _ (c .before .before .before .before .before .before .before .before .before .before .before .before .before .if1 .left), eq-eqb _ _ (c .before .before .before .before .before .before .before .before .before .before .before .if2 .left), first, second) answer
+    simp (eq-eqb _ 33 (c .before .before .before .before .before .before .before .before .before .before .before .before .before .if1 .left), eq-eqb _ 32 (c .before .before .before .before .before .before .before .before .before .before .before .if2 .left), first, second) answer
 
 pub point-of-spec : {M : Type 1} → statement M
 point-of-spec =

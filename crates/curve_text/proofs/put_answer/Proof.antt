@@ -37,7 +37,7 @@ unfolding answerText
 returns c =
     let A = c .before .before .before .before .before .before .before .before .args in let P = c .before .before .put-point in
     let e : A .p ≡ Good (c .before .before .before .before .before .p .given .0 .0) = c .before .before .before .before .before .p .given .1 in
-    (P .ensures .0 ∙ ap (λ (q : Point). endOf (length (A .out .now)) 0 (answerText q)) (sym e), P .ensures .1 ∙ ap (λ (q : Point). textAt (A .out .now) 0 (answerText q)) (sym e))
+    (P .ensures .0 ∙ ap (λ (q : Point). endOf (length (A .out .now)) (A .at) (answerText q)) (sym e), P .ensures .1 ∙ ap (λ (q : Point). textAt (A .out .now) (A .at) (answerText q)) (sym e))
 
 same-length-2 : tie.Need-same-length-2
 same-length-2 c = search needs
@@ -47,7 +47,7 @@ unfolding answerText
 returns-2 c =
     let A = c .before .before .before .before .before .before .before .before .args in let T = c .before .before .put-text in
     let e : A .p ≡ Bad = c .before .before .before .before .before .enum-told .given .1 in
-    (T .ensures .0 ∙ ap (λ (q : Point). endOf (length (A .out .now)) 0 (answerText q)) (sym e), T .ensures .1 ∙ ap (λ (q : Point). textAt (A .out .now) 0 (answerText q)) (sym e))
+    (T .ensures .0 ∙ ap (λ (q : Point). endOf (length (A .out .now)) (A .at) (answerText q)) (sym e), T .ensures .1 ∙ ap (λ (q : Point). textAt (A .out .now) (A .at) (answerText q)) (sym e))
 
 pub put-answer-spec : {M : Type 1} → statement M
 put-answer-spec =

@@ -50,7 +50,7 @@ unfolding pointText
 returns c =
     let A = c .before .before .before .before .before .before .before .before .before .before .before .before .before .before .before .before .before .before .before .before .before .before .before .before .before .before .args in let p = A .p in
     let C1 = c .before .before .before .before .before .before .before .before .before .before .before .before .before .before .before .before .before .before .before .before .before .before .put-column in let C2 = c .before .before .before .before .before .before .before .before .before .before .before .before .before .before .before .before .before .put-column2 in let C3 = c .before .before .before .before .before .before .before .before .before .before .before .before .put-column3 in let C4 = c .before .before .before .before .before .before .before .put-column4 in let C5 = c .before .before .put-column5 in
-    let v1 : Written (A .out .now) 0 (column (p .«ids_eval») (32 ∷ [])) (C1 .result) (C1 .last .0) = record { ends = C1 .ensures .0; holds = C1 .ensures .1 } in
+    let v1 : Written (A .out .now) (A .at) (column (p .«ids_eval») (32 ∷ [])) (C1 .result) (C1 .last .0) = record { ends = C1 .ensures .0; holds = C1 .ensures .1 } in
     let v2 : Written (C1 .last .0) (C1 .result) (column (p .gm) (32 ∷ [])) (C2 .result) (C2 .last .0) = record { ends = C2 .ensures .0; holds = C2 .ensures .1 } in
     let v3 : Written (C2 .last .0) (C2 .result) (column (p .gds) (32 ∷ [])) (C3 .result) (C3 .last .0) = record { ends = C3 .ensures .0; holds = C3 .ensures .1 } in
     let v4 : Written (C3 .last .0) (C3 .result) (column (p .gmbs) (32 ∷ [])) (C4 .result) (C4 .last .0) = record { ends = C4 .ensures .0; holds = C4 .ensures .1 } in

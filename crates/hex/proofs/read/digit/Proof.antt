@@ -1,5 +1,6 @@
 -- Each branch of the code is the branch of the definition that its tests name.
 use mathlib.Core.Path.{_≡_, refl}
+use native.Mathlib.Omega.{arith}
 use borrow.Author.Needs.{needs}
 use borrow.Author.Tests.{lt-ltb, le-ltb}
 use Rattle.hex.specs.Hex.{digitOf}
@@ -8,32 +9,32 @@ use Rattle.hex.proofs.read.digit.Tie as tie
 
 returns : tie.Need-returns
 unfolding digitOf
-returns c = simp (lt-ltb _ _ (c .if1 .taken))
+returns c = let b = c .before .args .b in simp (lt-ltb b 48 (omega arith))
 
 cast-result : tie.Need-cast-result
 cast-result c = search needs
 
 returns-2 : tie.Need-returns-2
 unfolding digitOf
-returns-2 c = simp (le-ltb _ _ (c .before .if1 .left), lt-ltb _ _ (c .if2 .taken))
+returns-2 c = let b = c .before .before .args .b in simp (le-ltb b 48 (omega arith), lt-ltb b 58 (omega arith))
 
 returns-3 : tie.Need-returns-3
 unfolding digitOf
-returns-3 c = simp (le-ltb _ _ (c .before .before .if1 .left), le-ltb _ _ (c .before .if2 .left), lt-ltb _ _ (c .if3 .taken))
+returns-3 c = let b = c .before .before .before .args .b in simp (le-ltb b 48 (omega arith), le-ltb b 58 (omega arith), lt-ltb b 97 (omega arith))
 
 sub-result : tie.Need-sub-result
-sub-result c = search needs
+sub-result c = omega arith
 
 cast-result-2 : tie.Need-cast-result-2
 cast-result-2 c = search needs
 
 returns-4 : tie.Need-returns-4
 unfolding digitOf
-returns-4 c = simp (le-ltb _ _ (c .before .before .before .if1 .left), le-ltb _ _ (c .before .before .if2 .left), le-ltb _ _ (c .before .if3 .left), lt-ltb _ _ (c .if4 .taken))
+returns-4 c = let b = c .before .before .before .before .args .b in simp (le-ltb b 48 (omega arith), le-ltb b 58 (omega arith), le-ltb b 97 (omega arith), lt-ltb b 103 (omega arith))
 
 returns-5 : tie.Need-returns-5
 unfolding digitOf
-returns-5 c = simp (le-ltb _ _ (c .before .before .before .if1 .left), le-ltb _ _ (c .before .before .if2 .left), le-ltb _ _ (c .before .if3 .left), le-ltb _ _ (c .if4 .left))
+returns-5 c = let b = c .before .before .before .before .args .b in simp (le-ltb b 48 (omega arith), le-ltb b 58 (omega arith), le-ltb b 97 (omega arith), le-ltb b 103 (omega arith))
 
 pub digit-spec : {M : Type 1} → statement M
 digit-spec =

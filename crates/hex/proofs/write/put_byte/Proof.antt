@@ -3,6 +3,7 @@ use mathlib.Core.Path.{_≡_, refl, sym, _∙_, ap}
 use native.Mathlib.Omega.{arith}
 use borrow.Author.Tests.{lt-ltb, le-ltb}
 use Rattle.hex.specs.Text.{after}
+use lib.ListN.{length}
 use lib.Seq.{set-out}
 use borrow.Author.Needs.{needs}
 use Rattle.hex.proofs.write.put_byte.Statement.{statement}
@@ -25,7 +26,9 @@ same-length c = search needs
 -- src/write.rt:13:9
 returns : tie.Need-returns
 unfolding after
-returns c = (simp (lt-ltb _ _ (c .if1 .taken)), refl)
+returns c =
+    let A = c .before .args in let e : after (length (A .out .now)) (A .at) ≡ A .at + 1 = simp (lt-ltb (A .at) (length (A .out .now)) (c .if1 .taken)) in
+    (sym e, refl)
 
 -- src/write.rt:7:1
 returns-2 : tie.Need-returns-2

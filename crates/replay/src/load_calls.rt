@@ -1,0 +1,133 @@
+// Loads by the words of a line.
+use crate::replies;
+use crate::replies::Reply;
+use device::Mosfet1;
+use loading::LoadAnswer;
+use loading::LoadKind;
+use script::number::Number;
+use script::number::read_number;
+use script::word::same;
+use script::word::until;
+use script::word::word;
+use script_lists::Count;
+use script_lists::first_columns;
+use script_lists::first_places;
+
+// Direct current, transient with its alpha, or a word that is neither.
+enum Kind {
+    Is(LoadKind),
+    Not,
+}
+
+// `dc` or `tran:ALPHA`
+fn kind_of(w: &[u8]) -> Kind {
+    if same(w, b"dc") {
+        return Kind::Is(LoadKind::DirectCurrent);
+    }
+    let start = 0;
+    let end = until(w, start, b':');
+    if w.len() <= end {
+        return Kind::Not;
+    }
+    if !same(&w[start..end], b"tran") {
+        return Kind::Not;
+    }
+    let after = end + 1;
+    match read_number(&w[after..]) {
+        Number::Is(alpha) => Kind::Is(LoadKind::Transient(alpha)),
+        Number::Not => Kind::Not,
+    }
+}
+
+// Loads, and writes both slices whole, or the refusal, from the start of out on.
+fn load_into(
+    device: Mosfet1,
+    kind: LoadKind,
+    rhs: &mut [f64],
+    values: &mut [f64],
+    columns: &[u32],
+    offsets: &[usize],
+    lengths: &[usize],
+    out: &mut [u8],
+) -> usize {
+    match loading::load(device, kind, rhs, values, columns, offsets, lengths) {
+        LoadAnswer::Done => {
+            let n = hex::put_text(out, 0, b"load");
+            let m = answers::put_list(out, n, rhs);
+            answers::put_list(out, m, values)
+        }
+        LoadAnswer::Refused(row) => replies::put_reply(out, Reply::Refused(row), &[]),
+    }
+}
+
+fn put_bad(out: &mut [u8]) -> usize {
+    hex::put_text(out, 0, b"bad")
+}
+
+// Loads into the first places of both slices; a count beyond its slice is bad.
+fn load_first(
+    device: Mosfet1,
+    kind: LoadKind,
+    rhs: &mut [f64],
+    numbers: usize,
+    values: &mut [f64],
+    count: usize,
+    columns: &[u32],
+    offsets: &[usize],
+    lengths: &[usize],
+    out: &mut [u8],
+) -> usize {
+    if rhs.len() < numbers {
+        return put_bad(out);
+    }
+    if values.len() < count {
+        return put_bad(out);
+    }
+    let start = 0;
+    load_into(
+        device,
+        kind,
+        &mut rhs[start..numbers],
+        &mut values[start..count],
+        columns,
+        offsets,
+        lengths,
+        out,
+    )
+}
+
+// `load dc|tran:ALPHA RHS COLUMNS ROWS VALUES`
+pub fn load(device: Mosfet1, line: &[u8], out: &mut [u8]) -> usize {
+    let mut rhs = [0.0; 4096];
+    let mut columns = [0u32; 4096];
+    let mut offsets = [0usize; 4096];
+    let mut lengths = [0usize; 4096];
+    let mut values = [0.0; 4096];
+    let Kind::Is(kind) = kind_of(word(line, 1)) else {
+        return put_bad(out);
+    };
+    let Count::Is(numbers) = script_lists::numbers(word(line, 2), &mut rhs) else {
+        return put_bad(out);
+    };
+    let Count::Is(cells) = script_lists::columns(word(line, 3), &mut columns) else {
+        return put_bad(out);
+    };
+    let Count::Is(rows) = script_lists::pairs(word(line, 4), &mut offsets, &mut lengths) else {
+        return put_bad(out);
+    };
+    let Count::Is(count) = script_lists::numbers(word(line, 5), &mut values) else {
+        return put_bad(out);
+    };
+    load_first(
+        device,
+        kind,
+        &mut rhs,
+        numbers,
+        &mut values,
+        count,
+        first_columns(&columns, cells),
+        first_places(&offsets, rows),
+        first_places(&lengths, rows),
+        out,
+    )
+}
