@@ -26,7 +26,7 @@ fn one_argument(name: &[u8], x: f64) -> Reply {
         return Reply::One(elementary::sqrt(x));
     }
     if same(name, b"vt") {
-        return Reply::One(junction::vt(x));
+        return Reply::One(junction::vt(Kelvin(x)));
     }
     if same(name, b"bandgap_ev") {
         return Reply::One(temperature::bandgap_ev(Kelvin(x)));
