@@ -11,7 +11,7 @@ use Rattle.exact.specs.Fraction.{ℚ, _//_, nat, _+q_, _-q_, _*q_, _/q_, absq, 
 use Rattle.exact.specs.FloatValue.{value}
 use Rattle.exact.specs.Float64.{_⊗_, +1}
 use Rattle.exact.specs.Size.{AtMost, NonNegative, Range}
-use Rattle.series.specs.Series.{E, Enough}
+use Rattle.elementary.specs.Accuracy.{E, Enough}
 use Rattle.junction.specs.Junction.{thermalVoltageOf, bulkJunctionOf, junctionOffsetOf}
 use Rattle.junction.specs.declared.Junction.{Junction}
 
