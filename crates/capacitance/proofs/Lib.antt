@@ -1,3 +1,1 @@
-pub mod Powers
 pub mod NoCapacitance
-pub mod Exponents

@@ -2,7 +2,7 @@
 use mathlib.Core.Bool.{cond}
 use lib.Ieee.{Float, neg}
 use Rattle.exact.specs.Float64.{_⊕_, _⊖_, _⊗_, _⊘_, _<f_, _=f_, +0, +1}
-use Rattle.elementary.specs.Functions.{Log, powFrom, powOf}
+use Rattle.elementary.specs.Functions.{powOf}
 use Rattle.float.specs.Constants.{two}
 use Rattle.capacitance.specs.declared.Grading.{Grading}
 
@@ -10,24 +10,31 @@ use Rattle.capacitance.specs.declared.Grading.{Grading}
 unfoldable pub cjBelowOf : Float → Float → Float → Float → Float
 cjBelowOf pb c0 v m = c0 ⊗ powOf (+1 ⊖ v ⊘ pb) (neg m)
 
--- c0 / (1 - fc) ^ (1 + m) · (1 - fc (1 + m) + m v / pb)
+-- c0 / (1 - fc) ^ (1 + m) · (1 - fc (1 + m) + m v / pb); the first with its power k = (1 - fc) ^ (1 + m) given
+abbrev pub cjAboveFrom : Float → Float → Float → Float → Float → Float → Float
+cjAboveFrom fc pb c0 v m k = c0 ⊘ k ⊗ (+1 ⊖ fc ⊗ (+1 ⊕ m) ⊕ m ⊗ v ⊘ pb)
+
 unfoldable pub cjAboveOf : Float → Float → Float → Float → Float → Float
-cjAboveOf fc pb c0 v m = c0 ⊘ powOf (+1 ⊖ fc) (+1 ⊕ m) ⊗ (+1 ⊖ fc ⊗ (+1 ⊕ m) ⊕ m ⊗ v ⊘ pb)
+cjAboveOf fc pb c0 v m = cjAboveFrom fc pb c0 v m (powOf (+1 ⊖ fc) (+1 ⊕ m))
 
 -- no capacitance at zero bias, none at any
 unfoldable pub cjDeplMOf : Float → Float → Float → Float → Float → Float
 cjDeplMOf fc pb c0 v m = cond (c0 =f +0) +0 (cond (v <f fc ⊗ pb) (cjBelowOf pb c0 v m) (cjAboveOf fc pb c0 v m))
 
--- c0 pb / (1 - m) · (1 - x ^ (1 - m)) at x = 1 - v / pb
+-- c0 pb / (1 - m) · (1 - x ^ (1 - m)) at x = 1 - v / pb; the first with its power p = x ^ (1 - m) given
+abbrev pub qBelowFrom : Float → Float → Float → Float → Float
+qBelowFrom pb c0 m p = c0 ⊗ pb ⊘ (+1 ⊖ m) ⊗ (+1 ⊖ p)
+
 unfoldable pub qBelowOf : Float → Float → Float → Float → Float
-qBelowOf pb c0 x m = c0 ⊗ pb ⊘ (+1 ⊖ m) ⊗ (+1 ⊖ powOf x (+1 ⊖ m))
+qBelowOf pb c0 x m = qBelowFrom pb c0 m (powOf x (+1 ⊖ m))
 
 -- the charge at fc pb, and the line's integral from there:
--- c0 / (1 - fc) ^ (1 + m) · ((1 - fc (1 + m)) (v - fc pb) + m / (2 pb) · (v² - (fc pb)²))
+-- c0 / (1 - fc) ^ (1 + m) · ((1 - fc (1 + m)) (v - fc pb) + m / (2 pb) · (v² - (fc pb)²)); the first with that charge q and the power k given
+abbrev pub qAboveFrom : Float → Float → Float → Float → Float → Float → Float → Float
+qAboveFrom fc pb c0 v m q k = q ⊕ c0 ⊘ k ⊗ ((+1 ⊖ fc ⊗ (+1 ⊕ m)) ⊗ (v ⊖ fc ⊗ pb) ⊕ m ⊘ (two ⊗ pb) ⊗ (v ⊗ v ⊖ fc ⊗ pb ⊗ (fc ⊗ pb)))
+
 unfoldable pub qAboveOf : Float → Float → Float → Float → Float → Float
-qAboveOf fc pb c0 v m =
-    qBelowOf pb c0 (+1 ⊖ fc) m ⊕ c0 ⊘ powOf (+1 ⊖ fc) (+1 ⊕ m)
-    ⊗ ((+1 ⊖ fc ⊗ (+1 ⊕ m)) ⊗ (v ⊖ fc ⊗ pb) ⊕ m ⊘ (two ⊗ pb) ⊗ (v ⊗ v ⊖ fc ⊗ pb ⊗ (fc ⊗ pb)))
+qAboveOf fc pb c0 v m = qAboveFrom fc pb c0 v m (qBelowOf pb c0 (+1 ⊖ fc) m) (powOf (+1 ⊖ fc) (+1 ⊕ m))
 
 unfoldable pub qDeplMOf : Float → Float → Float → Float → Float → Float
 qDeplMOf fc pb c0 v m = cond (c0 =f +0) +0 (cond (v <f fc ⊗ pb) (qBelowOf pb c0 (+1 ⊖ v ⊘ pb) m) (qAboveOf fc pb c0 v m))
@@ -45,21 +52,3 @@ cjDeplOf g bot sw v = cjGradedOf (g .fc) (g .«pb_t») (g .mj) (g .mjsw) (bot �
 
 unfoldable pub qDeplOf : Grading → Float → Float → Float → Float
 qDeplOf g bot sw v = qGradedOf (g .fc) (g .«pb_t») (g .mj) (g .mjsw) (bot ⊗ g .«cj_t_factor») (sw ⊗ g .«cjsw_t_factor») v
-
--- the base of the powers: 1 - v / pb, and 1 - fc from fc pb on
-unfoldable pub baseOf : Float → Float → Float → Float
-baseOf fc pb v = cond (v <f fc ⊗ pb) (+1 ⊖ v ⊘ pb) (+1 ⊖ fc)
-
--- capacitance and charge below fc pb by the logarithm of the base
-unfoldable pub cjBelowFrom : Log → Float → Float → Float
-cjBelowFrom l c0 m = cond (c0 =f +0) +0 (c0 ⊗ powFrom l (neg m))
-
-unfoldable pub qBelowFrom : Log → Float → Float → Float → Float
-qBelowFrom l pb c0 m = cond (c0 =f +0) +0 (c0 ⊗ pb ⊘ (+1 ⊖ m) ⊗ (+1 ⊖ powFrom l (+1 ⊖ m)))
-
--- bottom and sidewall
-unfoldable pub cjBelowBoth : Log → Float → Float → Float → Float → Float
-cjBelowBoth l bottom sidewall mj mjsw = cjBelowFrom l bottom mj ⊕ cjBelowFrom l sidewall mjsw
-
-unfoldable pub qBelowBoth : Log → Float → Float → Float → Float → Float → Float
-qBelowBoth l pb bottom sidewall mj mjsw = qBelowFrom l pb bottom mj ⊕ qBelowFrom l pb sidewall mjsw

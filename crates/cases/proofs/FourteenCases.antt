@@ -3,9 +3,8 @@ use mathlib.Core.Path.{_≡_, refl, sym, ap, subst, _∙_}
 use mathlib.Core.Bool.{true, false, cond}
 use lib.Ieee.{Float, binary64, round, neg, add, sub, mul, div, lt, le, eq, ofBits}
 use Rattle.exact.specs.Float64.{_⊕_, _⊖_, _⊗_, _⊘_, _>f_, +0, +1, absolute, maximum}
-use Rattle.square_root.specs.SquareRoot.{sqrtOf as rootOfFloat}
-use Rattle.exponential.specs.Exponential.{expOf as expOfFloat}
 use Rattle.elementary.specs.Functions.{sqrtOf, expOf}
+use Rattle.elementary.proofs.Computing.{functions}
 use Rattle.device.specs.declared.Mosfet1.{Mosfet1}
 use Rattle.device.specs.declared.Given.the-variants.{Absent, Value}
 use Rattle.device.specs.declared.Discretisation.the-variants.{Euler, Trapezoid, Gear}
@@ -166,7 +165,7 @@ fourteen-from E = record {
 }
 
 values : Values
-unfolding rootOfFloat expOfFloat round ofBits lt neg eq
+unfolding functions round ofBits lt neg eq
 values = record { root-9 = refl; root-4 = refl; root-3-5 = refl; exp-0 = refl }
 
 pub fourteen-cases : FourteenCases

@@ -3,10 +3,7 @@ use mathlib.Core.Bool.{Bool, true}
 use lib.Ieee.{round, neg, add, sub, mul, div, lt, le, eq, ne, ofInt, toUnsigned, ofBits, toBits}
 use lib.Count.{leadingZeros}
 use Rattle.exact.specs.Float64.{absolute, signum, maximum}
-use Rattle.square_root.specs.SquareRoot as root
-use Rattle.exponential.specs.Exponential as exponential
-use Rattle.logarithm.specs.Logarithm as logarithm
-use Rattle.power.specs.Power as power
+use Rattle.elementary.proofs.Computing.{functions}
 use Rattle.temperature.specs.Temperature.{bandgapEvOf, vtOf, isExponentOf, mosJunctionIsFactorOf, pbfactArgOf, pbfactOf, mobilityFactorOf, phioOf, scaledPhiOf, capTermOf, junctionCapFactorOf, bodyTermOf, scaledVtoOf}
 use Rattle.threshold.specs.Limiter.{cutStepOf, limitedVgsOf, limitedVdsOf}
 use Rattle.threshold.specs.Threshold.{bodyPotentialOf, thresholdOf, bodySlopeOf}
@@ -28,7 +25,7 @@ use Rattle.entries.specs.Entries.{entriesOf, beyondAscii, anyBeyondAscii, unkno
 
 -- floats
 unfoldable pub floats : Bool
-unfolding round neg add sub mul div lt le eq ne ofInt toUnsigned ofBits toBits leadingZeros absolute signum maximum root.sqrtOf exponential.expOf logarithm.lnOf logarithm.ln1pOf power.raisedOf power.powOf
+unfolding round neg add sub mul div lt le eq ne ofInt toUnsigned ofBits toBits leadingZeros absolute signum maximum functions
 floats = true
 
 -- keys

@@ -22,14 +22,11 @@ use Rattle.exact.proofs.FractionProver.{qv, ##, _÷_, _⊞_, _⊟_, _⊠_, linq
 use Rattle.exact.proofs.Ranges.{corner-≥, corner-≤}
 use Rattle.exact.proofs.Rounding.{frac-nonneg}
 use Rattle.exact.proofs.StrictOrder.{≤-<-trans, <-≤-trans, lit-<}
-use Rattle.series.specs.Series.{E, Enough, partialSum, term}
-use Rattle.series.proofs.Order.{E-nonneg, E-reciprocal, E-terms-above}
-use Rattle.series.proofs.Quotients.{frac-≤, cross-≤, frac-nat}
-use Rattle.series.proofs.Sizes.{E-at-most, E-at-least, E-large}
-use Rattle.power.specs.Accuracy.{AtLeast, least-relative, least-absolute, AtMost, most-relative, most-absolute, Between, a-number, infinite}
-use Rattle.power.proofs.Accuracy.{pow-between}
 use Rattle.temperature_sizes.proofs.Intervals.{every, part}
 use Rattle.elementary.specs.Functions.{powOf}
+use Rattle.elementary.specs.Accuracy.{E, Enough, partialSum, term, AtLeast, least-relative, least-absolute, AtMost, most-relative, most-absolute, Between, a-number, infinite}
+use Rattle.elementary.proofs.Series.{E-nonneg, E-reciprocal, E-terms-above, E-at-most, E-at-least, E-large, frac-≤, cross-≤, frac-nat}
+use Rattle.elementary.proofs.Laws.{pow-between}
 
 enough : Enough 3999
 enough = lit≤ tt

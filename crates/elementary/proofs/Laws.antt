@@ -1,7 +1,4 @@
 -- The laws of the elementary functions in one place, for the layers above. Each is proved in the crate that holds its function.
-use mathlib.Core.Path.{_≡_, refl}
-use lib.Ieee.{Float}
-use Rattle.elementary.specs.Functions.{logOf, powFrom, powOf}
 -- sqrt: correctly rounded; the special cases; order, sizes and how close its square is
 pub use Rattle.square_root.proofs.CorrectlyRounded.{correctly-rounded}
 pub use Rattle.square_root.proofs.SpecialCases.{sqrt-of-zero, sqrt-of-infinity, sqrt-of-nan, sqrt-below-zero}
@@ -17,8 +14,3 @@ pub use Rattle.logarithm.proofs.Sizes.{ln-at-most, ln-at-least, ln-1p-at-least,
 pub use Rattle.power.proofs.Accuracy.{pow-between}
 pub use Rattle.power.proofs.SpecialCases.{pow-special-cases}
 pub use Rattle.power.proofs.Sizes.{pow-sized}
-
--- pow by a logarithm that is taken first, and kept for other exponents
-pub pow-by-log : (b p : Float) → powOf b p ≡ powFrom (logOf b) p
-unfolding Rattle.power.specs.Power.powOf
-pow-by-log b p = refl

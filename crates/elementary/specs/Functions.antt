@@ -1,6 +1,5 @@
 -- The elementary functions by the names that the layers above use: each is the definition of the crate that holds it.
 use lib.Ieee.{Float}
-pub use Rattle.logarithm.specs.declared.Log.{Log}
 
 -- √x, correctly rounded
 abbrev pub sqrtOf : Float → Float
@@ -17,14 +16,6 @@ lnOf x = Rattle.logarithm.specs.Logarithm.lnOf x
 -- ln(1 + a)
 abbrev pub ln1pOf : Float → Float
 ln1pOf a = Rattle.logarithm.specs.Logarithm.ln1pOf a
-
--- the logarithm of a base, kept for several exponents
-abbrev pub logOf : Float → Log
-logOf b = Rattle.logarithm.specs.Logarithm.logOf b
-
--- the power of the base whose logarithm is l
-abbrev pub powFrom : Log → Float → Float
-powFrom l p = Rattle.power.specs.Power.powFrom l p
 
 -- b^p
 abbrev pub powOf : Float → Float → Float

@@ -1,7 +1,8 @@
 // The elementary functions: one name for each function of the crates below, and its export for C.
 ghost use mathlib.Core.Path.{_≡_};
-ghost use Rattle.elementary.specs.Functions.{sqrtOf, expOf, lnOf, ln1pOf, logOf, powFrom, powOf};
-pub use logarithm::Log;
+ghost use Rattle.elementary.specs.Functions.{sqrtOf, expOf, lnOf, ln1pOf, powOf};
+ghost use lib.Ieee.{neg};
+ghost use Rattle.exact.specs.Float64.{_⊖_, +1};
 
 pub fn sqrt(x: f64) -> f64
     ensures { λ r. ⌜ r ≡ sqrtOf x ⌝ }
@@ -27,22 +28,58 @@ pub fn ln_1p(a: f64) -> f64
     logarithm::ln_1p(a)
 }
 
-pub fn log_of(b: f64) -> Log
-    ensures { λ r. ⌜ r ≡ logOf b ⌝ }
-{
-    logarithm::log_of(b)
-}
-
-pub fn pow_of(l: Log, p: f64) -> f64
-    ensures { λ r. ⌜ r ≡ powFrom l p ⌝ }
-{
-    power::pow_of(l, p)
-}
-
 pub fn pow(b: f64, p: f64) -> f64
     ensures { λ r. ⌜ r ≡ powOf b p ⌝ }
 {
     power::pow(b, p)
+}
+
+// Powers of one base, by one logarithm.
+pub struct TwoPowers {
+    pub first: f64,
+    pub second: f64,
+}
+
+pub struct FourPowers {
+    pub first: f64,
+    pub second: f64,
+    pub third: f64,
+    pub fourth: f64,
+}
+
+pub fn two_powers(b: f64, p: f64, q: f64) -> TwoPowers
+    ensures { λ r. ⌜ (r .first ≡ powOf b p) × (r .second ≡ powOf b q) ⌝ }
+{
+    let x = power::two_powers(b, p, q);
+    TwoPowers {
+        first: x.first,
+        second: x.second,
+    }
+}
+
+pub fn four_powers(b: f64, p: f64, q: f64, s: f64, t: f64) -> FourPowers
+    ensures { λ r. ⌜ (r .first ≡ powOf b p) × (r .second ≡ powOf b q) × (r .third ≡ powOf b s) × (r .fourth ≡ powOf b t) ⌝ }
+{
+    let x = power::four_powers(b, p, q, s, t);
+    FourPowers {
+        first: x.first,
+        second: x.second,
+        third: x.third,
+        fourth: x.fourth,
+    }
+}
+
+// b^-m, b^(1 - m), b^-n and b^(1 - n): quick where these exponents are fractions.
+pub fn fractional_powers(b: f64, m: f64, n: f64) -> FourPowers
+    ensures { λ r. ⌜ (r .first ≡ powOf b (neg m)) × (r .second ≡ powOf b (+1 ⊖ m)) × (r .third ≡ powOf b (neg n)) × (r .fourth ≡ powOf b (+1 ⊖ n)) ⌝ }
+{
+    let x = power::fractional_powers(b, m, n);
+    FourPowers {
+        first: x.first,
+        second: x.second,
+        third: x.third,
+        fourth: x.fourth,
+    }
 }
 
 // ---- for C

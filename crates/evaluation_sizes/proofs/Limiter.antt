@@ -30,8 +30,7 @@ use Rattle.exact.proofs.Sizes.{atMost-⊗, atMost-weaken, constant-atMost}
 use Rattle.exact.proofs.Tests.{holds}
 use Rattle.temperature_sizes.proofs.Intervals.{constant-in}
 use Rattle.temperature_sizes.proofs.Potentials.{one-range}
-use Rattle.logarithm.proofs.Accuracy.{ln-1p-accurate}
-use Rattle.logarithm.proofs.Sizes.{ln-1p-at-least, ln-1p-at-most-k}
+use Rattle.elementary.proofs.Laws.{ln-1p-accurate, ln-1p-at-least, ln-1p-at-most-k}
 use Rattle.elementary.specs.Functions.{ln1pOf}
 use Rattle.depletion_sizes.specs.DepletionSizes.{NodeDifference}
 use Rattle.depletion_sizes.proofs.Branches.{by-test}

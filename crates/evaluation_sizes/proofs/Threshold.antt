@@ -15,7 +15,7 @@ use Rattle.exact.proofs.Ranges.{range-⊕, range-⊖, range-⊗, range-weaken, 
 use Rattle.exact.proofs.Representable.{representable}
 use Rattle.exact.proofs.Sizes.{atMost-neg, atMost-⊘, atMost-weaken, atLeast-⊗, constant-atMost, constant-atLeast, atMost-⊗}
 use Rattle.exact.proofs.StrictOrder.{lit-<}
-use Rattle.square_root.proofs.RootBounds.{root-atLeast}
+use Rattle.elementary.proofs.Laws.{root-atLeast}
 use Rattle.temperature_sizes.proofs.Intervals.{constant-in}
 use Rattle.temperature_sizes.proofs.Elementary.{sqrt-range}
 use Rattle.elementary.specs.Functions.{sqrtOf}

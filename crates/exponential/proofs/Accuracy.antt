@@ -25,7 +25,7 @@ use Rattle.series.specs.Series.{E, Enough}
 use Rattle.series.proofs.Quotients.{_⟫_}
 use Rattle.series.proofs.Order.{E-cong, E-zero, E-nonneg}
 use Rattle.exponential.specs.Exponential.{expOf, expAbove, expFixed, fixedOf, greatest}
-use Rattle.exponential.specs.Accuracy.{Close, SpecialCases}
+use Rattle.exponential.specs.Accuracy.{parts, Close, SpecialCases}
 use Rattle.exponential.proofs.Ranges.{cond-yes, cond-else}
 use Rattle.exponential.proofs.Cutting.{fixed-bounds}
 use Rattle.exponential.proofs.FixedPoint.{fixed-finite, fixed-close}
@@ -138,10 +138,10 @@ unfolding value nat
 nil-value true e = record { eq = omega arith }
 nil-value false e = record { eq = omega arith }
 
-close-at : (x r : Float) → expOf x ≡ r → T (finite r) → ((N : ℕ) → Enough N → Within (value r) (E N (value x)) (1 // 2 ^ 45 *q E N (value x))) → Close x
+close-at : (x r : Float) → expOf x ≡ r → T (finite r) → ((N : ℕ) → Enough N → Within (value r) (E N (value x)) (1 // parts *q E N (value x))) → Close x
 close-at x r e t w = record {
   is-finite = subst (λ (y : Float). T (finite y)) (sym e) t;
-  within = λ N n. subst (λ (y : Float). Within (value y) (E N (value x)) (1 // 2 ^ 45 *q E N (value x))) (sym e) (w N n);
+  within = λ N n. subst (λ (y : Float). Within (value y) (E N (value x)) (1 // parts *q E N (value x))) (sym e) (w N n);
 }
 
 pub exp-close : (x : Float) → T (fits binary64 x) → T (finite x) → absq (value x) ≤q nat 700 → Close x
@@ -150,10 +150,10 @@ exp-close nan f t h = absurd t
 exp-close (inf s) f t h = absurd t
 exp-close (fin s zero e) f t h = close-at (fin s zero e) +1 (exp-at-zero e s) tt (λ N n. at-zero N)
   where
-    at-zero : (N : ℕ) → Within (value +1) (E N (value (fin s 0 e))) (1 // 2 ^ 45 *q E N (value (fin s 0 e)))
+    at-zero : (N : ℕ) → Within (value +1) (E N (value (fin s 0 e))) (1 // parts *q E N (value (fin s 0 e)))
     at-zero N =
         within-mono (within-≈ (≈-refl (value +1)) (value-+1 ⟫ ≈-sym (E-cong N (nil-value s e) ⟫ E-zero N)) (within-refl (value +1)))
-        (≤-trans (leq [] (## 0) (1 ÷ 2 ^ 45 ⊠ ## 0) tt) (*-mono (leq [] (## 0) (1 ÷ 2 ^ 45) tt) (E-nonneg N (value (fin s 0 e)))))
+        (≤-trans (leq [] (## 0) (1 ÷ parts ⊠ ## 0) tt) (*-mono (leq [] (## 0) (1 ÷ parts) tt) (E-nonneg N (value (fin s 0 e)))))
 exp-close (fin false (suc m) e) f t h =
     let l : suc m * up e * 1 ≤ 700 * down e = let k = ≤-trans (le-abs (value (fin false (suc m) e))) h .le in omega arith in
     let x = fin false (suc m) e in
@@ -161,8 +161,8 @@ exp-close (fin false (suc m) e) f t h =
     let b = fixed-bounds x f p (cross→le x greatest p tt l) in
     close-at x (expFixed (fixedOf x)) (exp-is-above m e l) (fixed-finite (fixedOf x) (b .0)) (λ N n. within-mono (fixed-close (fixedOf x) (b .0) N n (b .1) (b .2)) (wider (E N (value x)) (E-nonneg N (value x))))
   where
-    wider : (e : ℚ) → nat 0 ≤q e → 1 // 2 ^ 47 *q e ≤q 1 // 2 ^ 45 *q e
-    wider e E₀ = linq (e ∷ []) ((## 0 ⊑ qv 0 by 3) ∷ []) 140737488355327 (1 ÷ 2 ^ 47 ⊠ qv 0) (1 ÷ 2 ^ 45 ⊠ qv 0) tt E₀
+    wider : (e : ℚ) → nat 0 ≤q e → 1 // 2 ^ 47 *q e ≤q 1 // parts *q e
+    wider e E₀ = linq (e ∷ []) ((## 0 ⊑ qv 0 by 3) ∷ []) 140737488355327 (1 ÷ 2 ^ 47 ⊠ qv 0) (1 ÷ parts ⊠ qv 0) tt E₀
 exp-close (fin true (suc m) e) f t h =
     let l : suc m * up e * 1 ≤ 700 * down e = let k = ≤-trans (neg-le-abs (value (fin true (suc m) e))) h .le in omega arith in
     let x = fin true (suc m) e in

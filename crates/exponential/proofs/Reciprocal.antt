@@ -19,6 +19,7 @@ use Rattle.series.proofs.Quotients.{_⟫_}
 use Rattle.series.proofs.Order.{E-reciprocal, E-nonneg}
 use Rattle.exact.proofs.StrictOrder.{*-nonneg}
 use Rattle.exponential.specs.Exponential.{expFixed}
+use Rattle.exponential.specs.Accuracy.{parts}
 use Rattle.exponential.proofs.FixedPoint.{fixed-finite, fixed-at-least, fixed-at-most, fixed-close, fixed-not-zero, inverse, inverse-is, inverse-nonneg}
 
 tiny-small : tiny binary64 *q nat (2 ^ 1021) ≤q 1 // 2 ^ 54
@@ -92,7 +93,7 @@ module _ (X : ℕ) (h : X ≤ 700 * 2 ^ 53) where
   pub fixed-inverse-nonneg : nat 0 ≤q value (+1 ⊘ expFixed X)
   fixed-inverse-nonneg = rounded-nonneg rounded fixed-inverse-finite i-nonneg
 
-  pub fixed-inverse-close : {v : ℚ} (N : ℕ) → Enough N → X // 2 ^ 53 ≤q v → v ≤q (X + 1) // 2 ^ 53 → Within (value (+1 ⊘ expFixed X)) (E N (negq v)) (1 // 2 ^ 45 *q E N (negq v))
+  pub fixed-inverse-close : {v : ℚ} (N : ℕ) → Enough N → X // 2 ^ 53 ≤q v → v ≤q (X + 1) // 2 ^ 53 → Within (value (+1 ⊘ expFixed X)) (E N (negq v)) (1 // parts *q E N (negq v))
   fixed-inverse-close {v} N n from to =
       let z = value (+1 ⊘ expFixed X) in
       let a = absq i in let t = tiny binary64 in
@@ -108,9 +109,9 @@ module _ (X : ℕ) (h : X ≤ 700 * 2 ^ 53) where
         above =
             linq (z ∷ i ∷ j ∷ a ∷ t ∷ [])
             ((qv 0 ⊟ qv 1 ⊑ 1 ÷ 2 ^ 53 ⊠ qv 3 ⊞ qv 4 by 4951760157141521099596496896) ∷ (qv 3 ⊑ qv 1 by 549755813888) ∷ (qv 4 ⊑ qv 1 ⊠ 1 ÷ 2 ^ 54 by 4951760157141521099596496896) ∷ (qv 1 ⊟ qv 2 ⊑ 1 ÷ 2 ^ 47 ⊠ qv 1 by 4951760157141661837084852224) ∷ (## 0 ⊑ qv 1 by 104728482545663) ∷ [])
-            4951760157141521099596496895 (qv 0 ⊟ qv 2) (1 ÷ 2 ^ 45 ⊠ qv 2) tt (w .above) i-abs i-tiny lo i-nonneg;
+            4951760157141521099596496895 (qv 0 ⊟ qv 2) (1 ÷ parts ⊠ qv 2) tt (w .above) i-abs i-tiny lo i-nonneg;
         below =
             linq (z ∷ i ∷ j ∷ a ∷ t ∷ [])
             ((qv 1 ⊟ qv 0 ⊑ 1 ÷ 2 ^ 53 ⊠ qv 3 ⊞ qv 4 by 9007199254740992) ∷ (qv 3 ⊑ qv 1 by 1) ∷ (qv 4 ⊑ qv 1 ⊠ 1 ÷ 2 ^ 54 by 9007199254740992) ∷ (qv 2 ⊟ qv 1 ⊑ 1 ÷ 2 ^ 47 ⊠ qv 1 by 22412445020585856) ∷ (qv 1 ⊟ qv 2 ⊑ 1 ÷ 2 ^ 47 ⊠ qv 1 by 13405245765845120) ∷ [])
-            9007199254740991 (qv 2 ⊟ qv 0) (1 ÷ 2 ^ 45 ⊠ qv 2) tt (w .below) i-abs i-tiny up lo;
+            9007199254740991 (qv 2 ⊟ qv 0) (1 ÷ parts ⊠ qv 2) tt (w .below) i-abs i-tiny up lo;
       }

@@ -18,11 +18,8 @@ use Rattle.exact.proofs.FractionDivision.{abs-div-le, mul-div-cancel}
 use Rattle.exact.proofs.Rounding.{rounds, div-rounded-q}
 use Rattle.exact.proofs.RelativeErrors.{Rel}
 use Rattle.exact.proofs.Computing.{computing}
-use Rattle.series.specs.Series.{E, Enough}
-use Rattle.series.proofs.Order.{E-cong, E-nonneg}
-use Rattle.series.proofs.Sizes.{E-at-most}
-use Rattle.series.proofs.ProductLaws.{tails}
-use Rattle.series.proofs.Shifts.{E-shift}
+use Rattle.elementary.specs.Accuracy.{E, Enough}
+use Rattle.elementary.proofs.Series.{E-cong, E-nonneg, E-at-most, tails, E-shift}
 use Rattle.elementary.specs.Functions.{expOf}
 use Rattle.elementary.proofs.Laws.{exp-close}
 

@@ -23,7 +23,7 @@ use Rattle.exact.proofs.Tests.{holds}
 use Rattle.exact.proofs.Sizes.{atMost-⊗}
 use Rattle.exact.proofs.RelativeErrors.{rel-scale, rel-weaken}
 use Rattle.exact.proofs.Computing.{computing}
-use Rattle.series.specs.Series.{E, Enough}
+use Rattle.elementary.specs.Accuracy.{E, Enough}
 use Rattle.elementary.specs.Functions.{expOf}
 use Rattle.temperature.specs.declared.Kelvin.{Kelvin}
 use Rattle.junction.specs.Junction.{thermalVoltageOf, shockleyOf, bulkJunctionOf, junctionOffsetOf}

@@ -12,7 +12,7 @@ use Rattle.exact.specs.FloatValue.{value}
 use Rattle.exact.specs.Float64.{_⊗_, +1}
 use Rattle.exact.specs.Size.{AtMost, NonNegative, Range}
 use Rattle.temperature.specs.declared.Kelvin.{Kelvin}
-use Rattle.series.specs.Series.{E, Enough}
+use Rattle.elementary.specs.Accuracy.{E, Enough}
 use Rattle.junction.specs.Junction.{thermalVoltageOf, bulkJunctionOf, junctionOffsetOf}
 use Rattle.junction.specs.declared.Junction.{Junction}
 

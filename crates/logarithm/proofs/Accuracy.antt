@@ -35,7 +35,7 @@ use Rattle.series.proofs.Sizes.{E-large}
 use Rattle.exact.proofs.PositivePatterns.{unitsOf}
 use Rattle.exponential.proofs.Accuracy.{one-value}
 use Rattle.logarithm.specs.Logarithm.{leastNormal, logOf, lnFrom, lnOf, ln1pOf}
-use Rattle.logarithm.specs.Accuracy.{IsLogarithm}
+use Rattle.logarithm.specs.Accuracy.{parts, IsLogarithm}
 use Rattle.logarithm.specs.declared.Log.{Log}
 use Rattle.logarithm.proofs.WholeBounds.{B, D}
 use Rattle.logarithm.proofs.Enclosure.{δ, fixed}
@@ -81,11 +81,11 @@ stands (above v m e) = let r = rounded-near v (small-enough v m) in record { ℓ
 stands (below v m e) = let r = rounded-near v (small-enough v m) in record { ℓ = negq (fixed v); encloses = e; is-finite = neg-finite _ (r .0); near = within-≈ (≈-sym (value-neg _)) (≈-refl (negq (fixed v))) (within-neg (r .1)) }
 
 -- y less 2^-42 is below ℓ less δ, with 2^-45 to spare
-spare-low : {x : ℚ} {y : Float} (s : Stands x y) → value y -q 1 // 2 ^ 42 ≤q s .ℓ -q δ -q 1 // 2 ^ 45
-spare-low {x} {y} s = linq (value y ∷ s .ℓ ∷ []) ((qv 0 ⊟ qv 1 ⊑ 3 ÷ (2 ^ 44) by 1) ∷ []) 0 (qv 0 ⊟ 1 ÷ (2 ^ 42)) (qv 1 ⊟ (2 ^ 19) ÷ (2 ^ 64) ⊟ 1 ÷ (2 ^ 45)) tt (s .near .above)
+spare-low : {x : ℚ} {y : Float} (s : Stands x y) → value y -q 1 // parts ≤q s .ℓ -q δ -q 1 // 2 ^ 45
+spare-low {x} {y} s = linq (value y ∷ s .ℓ ∷ []) ((qv 0 ⊟ qv 1 ⊑ 3 ÷ (2 ^ 44) by 1) ∷ []) 0 (qv 0 ⊟ 1 ÷ parts) (qv 1 ⊟ (2 ^ 19) ÷ (2 ^ 64) ⊟ 1 ÷ (2 ^ 45)) tt (s .near .above)
 
-spare-high : {x : ℚ} {y : Float} (s : Stands x y) → s .ℓ +q δ +q 1 // 2 ^ 45 ≤q value y +q 1 // 2 ^ 42
-spare-high {x} {y} s = linq (value y ∷ s .ℓ ∷ []) ((qv 1 ⊟ qv 0 ⊑ 3 ÷ (2 ^ 44) by 1) ∷ []) 0 (qv 1 ⊞ (2 ^ 19) ÷ (2 ^ 64) ⊞ 1 ÷ (2 ^ 45)) (qv 0 ⊞ 1 ÷ (2 ^ 42)) tt (s .near .below)
+spare-high : {x : ℚ} {y : Float} (s : Stands x y) → s .ℓ +q δ +q 1 // 2 ^ 45 ≤q value y +q 1 // parts
+spare-high {x} {y} s = linq (value y ∷ s .ℓ ∷ []) ((qv 1 ⊟ qv 0 ⊑ 3 ÷ (2 ^ 44) by 1) ∷ []) 0 (qv 1 ⊞ (2 ^ 19) ÷ (2 ^ 64) ⊞ 1 ÷ (2 ^ 45)) (qv 0 ⊞ 1 ÷ parts) tt (s .near .below)
 
 pub is-logarithm : {x : ℚ} {y : Float} → Stands x y → IsLogarithm x y
 is-logarithm {x} {y} s = record {

@@ -101,7 +101,7 @@ module _ (x : Float) (t : T (fits binary64 x)) (p : lt +0 x ≡ true) (q : lt x 
   from-bits (over v u w e F h) = subst (λ (l : Log). Logged (value x) l) (sym e) (above v (F .moderate) (enclosed-above F (value-of ⟫ frac-≈ (unitsOf b) u (pow-pos 1074) (F .divisor) h)))
   from-bits (under v u w e F U h) = subst (λ (l : Log). Logged (value x) l) (sym e) (below v (F .moderate) (enclosed-below F U (value-of ⟫ frac-≈ (unitsOf b) w (pow-pos 1074) U h)))
 
-  not-one : eq x +1 ≡ false → toBits binary64 x ≡ 1023 * 2 ^ 52 → ⊥
+  pub not-one : eq x +1 ≡ false → toBits binary64 x ≡ 1023 * 2 ^ 52 → ⊥
   not-one e h = clash (sym one-itself ∙ ap (λ (y : Float). eq y +1) (sym (sym (ofBits-toBits binary64 x t) ∙ ap (λ (n : ℕ). ofBits binary64 n) h)) ∙ e)
 
   pub logged : Logged (value x) (logOf x)

@@ -8,6 +8,7 @@ pub mod Reflects
 pub mod Enclosure
 pub mod Decoded
 pub mod Enclosed
+pub mod BelowOne
 pub mod RoundedLog
 pub mod Accuracy
 pub mod Sizes

@@ -2,9 +2,12 @@
 ghost use mathlib.Core.Path.{_≡_};
 ghost use mathlib.Core.Bool.{true, cond};
 ghost use Prim.Native.Nat.{_+_, _-_, _*_, _/_, _%_, _^_, _≤_, _<_};
+ghost use lib.Dec.{ltb};
 ghost use lib.ListN.{getD};
+ghost use Rattle.exact.specs.Float64.{_<f_, +1};
 ghost use Rattle.logarithm.specs.LnTable.{lnTable, inverseOf};
 ghost use Rattle.logarithm.specs.FixedPoint.{nearOne, limit, lnMantOf, twosOf};
+ghost use Rattle.logarithm.specs.declared.Log.the-variants.{Above, Below};
 ghost use Rattle.logarithm.specs.Logarithm.{logBits, logOf, roundedOf, lnFrom, lnOf, ln1pOf};
 use wide::mulhi;
 
@@ -67,21 +70,47 @@ fn log_below(m: u64, n: u64) -> u64
     twos(n) - ln_mant(m) / 2048
 }
 
-// The logarithm of the positive finite number whose pattern is bits. The functions below answer a number, not a Log, which would go through memory.
-fn log_bits(bits: u64) -> Log
+// The size of the logarithm of the positive finite number whose pattern is bits. The functions below answer a number, not a Log, which would go through memory.
+fn size_of_bits(bits: u64) -> u64
     requires { ⌜ (0 < bits) × (bits < 2047 * 2 ^ 52) ⌝ }
-    ensures { λ r. ⌜ r ≡ logBits bits ⌝ }
+    ensures { λ r. ⌜ logBits bits ≡ cond (ltb (bits / 2 ^ 52) 1023) (Below r) (Above r) ⌝ }
 {
     if bits < 0x10_0000_0000_0000 {
         let z = u64::leading_zeros(bits) as u64;
-        return Log::Below(log_below(bits << (z - 1), 1011 + z));
+        return log_below(bits << (z - 1), 1011 + z);
     }
     let m = ((bits & 0xf_ffff_ffff_ffff) + 0x10_0000_0000_0000) * 1024;
     let field = bits >> 52;
     if field < 1023 {
-        return Log::Below(log_below(m, 1023 - field));
+        return log_below(m, 1023 - field);
     }
-    Log::Above(log_above(m, field - 1023))
+    log_above(m, field - 1023)
+}
+
+// The logarithm with its sign.
+fn log_bits(bits: u64) -> Log
+    requires { ⌜ (0 < bits) × (bits < 2047 * 2 ^ 52) ⌝ }
+    ensures { λ r. ⌜ r ≡ logBits bits ⌝ }
+{
+    let v = size_of_bits(bits);
+    if bits >> 52 < 1023 {
+        return Log::Below(v);
+    }
+    Log::Above(v)
+}
+
+// The size of the logarithm of b, where b is positive and finite, not 1, and the size at most 760; otherwise a number above these.
+pub fn log_size(b: f64) -> u64
+    ensures { λ r. ⌜ (r ≤ 760 * 2 ^ 53 → logOf b ≡ cond (b <f +1) (Below r) (Above r)) ⌝ }
+{
+    if b > 0.0 {
+        if b < 1.0 / 0.0 {
+            if b != 1.0 {
+                return size_of_bits(f64::to_bits(b));
+            }
+        }
+    }
+    0xffff_ffff_ffff_ffff
 }
 
 // The logarithm of a base.

@@ -30,7 +30,7 @@ use Rattle.logarithm.proofs.Enclosed.{Enclosed, Logged, one, above, below, logg
 use Rattle.logarithm.proofs.Reflects.{E-reflects-≤}
 use Rattle.logarithm.proofs.Accuracy.{zero-value, zero-finite, one-finite}
 use Rattle.power.specs.Power.{four, minusFour, powerOf, productOf, raisedOf, nonzeroPower, powFrom, powOf}
-use Rattle.power.specs.Accuracy.{Between, lower, upper}
+use Rattle.power.specs.Accuracy.{parts, Between, lower, upper}
 use Rattle.power.specs.Accuracy.AtLeast.{least-relative}
 use Rattle.power.specs.Accuracy.AtMost.{most-relative}
 use Rattle.power.specs.Accuracy.Between.{a-number}
@@ -47,8 +47,8 @@ one-between : {lo hi : ℚ} → lo ≤q nat 0 → nat 0 ≤q hi → Between lo h
 one-between {lo} {hi} l h = a-number +1 (record {
   is-finite = one-finite;
   not-negative = ≤-trans (leq [] (## 0) (## 1) tt) (≤-of-≈ (≈-sym one-value));
-  not-below = λ K k. least-relative (linq (E K lo ∷ value +1 ∷ []) ((qv 0 ⊑ ## 1 by 1099511627776) ∷ (## 0 ⊑ qv 0 by 1) ∷ (## 1 ⊑ qv 1 by 1099511627776) ∷ []) 1099511627775 (qv 0 ⊟ 1 ÷ (2 ^ 40) ⊠ qv 0) (qv 1) tt (E-at-most-one K l) (E-nonneg K lo) (≤-of-≈ (≈-sym one-value)));
-  not-above = λ K k. most-relative (linq (E K hi ∷ value +1 ∷ []) ((## 1 ⊑ qv 0 by 1099511627777) ∷ (qv 1 ⊑ ## 1 by 1099511627776) ∷ []) 1099511627775 (qv 1) (qv 0 ⊞ 1 ÷ (2 ^ 40) ⊠ qv 0) tt (E-at-least-one K h) (≤-of-≈ one-value));
+  not-below = λ K k. least-relative (linq (E K lo ∷ value +1 ∷ []) ((qv 0 ⊑ ## 1 by 1099511627776) ∷ (## 0 ⊑ qv 0 by 1) ∷ (## 1 ⊑ qv 1 by 1099511627776) ∷ []) 1099511627775 (qv 0 ⊟ 1 ÷ parts ⊠ qv 0) (qv 1) tt (E-at-most-one K l) (E-nonneg K lo) (≤-of-≈ (≈-sym one-value)));
+  not-above = λ K k. most-relative (linq (E K hi ∷ value +1 ∷ []) ((## 1 ⊑ qv 0 by 1099511627777) ∷ (qv 1 ⊑ ## 1 by 1099511627776) ∷ []) 1099511627775 (qv 1) (qv 0 ⊞ 1 ÷ parts ⊠ qv 0) tt (E-at-least-one K h) (≤-of-≈ one-value));
 })
 
 times-zero : (x : ℚ) {π : ℚ} → π ≈q nat 0 → x *q π ≈q nat 0

@@ -29,7 +29,7 @@ use Rattle.exponential.proofs.FixedPoint.{fixed-finite, fixed-close}
 use Rattle.exponential.proofs.Reciprocal.{fixed-inverse-finite, fixed-inverse-close}
 use Rattle.logarithm.proofs.Accuracy.{zero-value, zero-finite}
 use Rattle.power.specs.Power.{powerOf}
-use Rattle.power.specs.Accuracy.{AtLeast, AtMost, Between}
+use Rattle.power.specs.Accuracy.{parts, AtLeast, AtMost, Between}
 use Rattle.power.specs.Accuracy.AtLeast.{least-relative, least-absolute}
 use Rattle.power.specs.Accuracy.AtMost.{most-relative, most-absolute}
 use Rattle.power.specs.Accuracy.Between.{a-number, infinite}
@@ -76,14 +76,14 @@ module _ {lo hi : ℚ} (z : ℚ) (r : Float) (r-finite : T (finite r)) (m : absq
   least {K} k =
       let g = E K lo in let f = E K (z +q η) in let e = E K z in
       least-relative
-      (linq (g ∷ f ∷ e ∷ value r ∷ []) ((qv 0 ⊑ qv 1 by 19342813113816474609254400) ∷ (qv 1 ⊟ qv 2 ⊑ 9 ÷ (2 ^ 44) ⊠ qv 2 by 19342813113816474609254400) ∷ (qv 2 ⊟ qv 3 ⊑ 1 ÷ (2 ^ 45) ⊠ qv 2 by 19342813113834066795298816) ∷ (## 0 ⊑ qv 2 by 7146825580553) ∷ []) 19342813113834066795298815 (qv 0 ⊟ 1 ÷ (2 ^ 40) ⊠ qv 0) (qv 3) tt
+      (linq (g ∷ f ∷ e ∷ value r ∷ []) ((qv 0 ⊑ qv 1 by 19342813113816474609254400) ∷ (qv 1 ⊟ qv 2 ⊑ 9 ÷ (2 ^ 44) ⊠ qv 2 by 19342813113816474609254400) ∷ (qv 2 ⊟ qv 3 ⊑ 1 ÷ (2 ^ 45) ⊠ qv 2 by 19342813113834066795298816) ∷ (## 0 ⊑ qv 2 by 7146825580553) ∷ []) 19342813113834066795298815 (qv 0 ⊟ 1 ÷ parts ⊠ qv 0) (qv 3) tt
       (E-mono K l) (≤-trans (E-shift η k k z-moderate (moderate z η m quarter) quarter .above) (scale-mono e (E-nonneg K z) shift-small)) (close K k .below) (E-nonneg K z))
 
   most : {K : ℕ} → Enough K → AtMost (E K hi) (value r)
   most {K} k =
       let h = E K hi in let f = E K (z +q negq η) in let e = E K z in
       most-relative
-      (linq (h ∷ f ∷ e ∷ value r ∷ []) ((qv 1 ⊑ qv 0 by 19342813113851658981343232) ∷ (qv 2 ⊟ qv 1 ⊑ 9 ÷ (2 ^ 44) ⊠ qv 2 by 19342813113851658981343232) ∷ (qv 3 ⊟ qv 2 ⊑ 1 ÷ (2 ^ 45) ⊠ qv 2 by 19342813113834066795298816) ∷ (## 0 ⊑ qv 2 by 7146825580535) ∷ []) 19342813113834066795298815 (qv 3) (qv 0 ⊞ 1 ÷ (2 ^ 40) ⊠ qv 0) tt
+      (linq (h ∷ f ∷ e ∷ value r ∷ []) ((qv 1 ⊑ qv 0 by 19342813113851658981343232) ∷ (qv 2 ⊟ qv 1 ⊑ 9 ÷ (2 ^ 44) ⊠ qv 2 by 19342813113851658981343232) ∷ (qv 3 ⊟ qv 2 ⊑ 1 ÷ (2 ^ 45) ⊠ qv 2 by 19342813113834066795298816) ∷ (## 0 ⊑ qv 2 by 7146825580535) ∷ []) 19342813113834066795298815 (qv 3) (qv 0 ⊞ 1 ÷ parts ⊠ qv 0) tt
       (E-mono K u) (≤-trans (E-shift (negq η) k k z-moderate (moderate z (negq η) m quarter′) quarter′ .below) (scale-mono e (E-nonneg K z) shift-small′)) (close K k .above) (E-nonneg K z))
 
   near-is-between : Between lo hi r

@@ -9,14 +9,18 @@ use Rattle.exact.specs.FloatValue.{value}
 use Rattle.exact.specs.Float64.{_<f_, +0}
 use Rattle.series.specs.Series.{E, Enough}
 
+-- a power is within one part in so many of E
+abbrev pub parts : ℕ
+parts = 2 ^ 40
+
 -- y is at least e, within 2^-40 relative or 2^-1000 absolute
 pub data AtLeast (e y : ℚ) : Type 0 where
-  least-relative : e -q 1 // 2 ^ 40 *q e ≤q y → AtLeast e y
+  least-relative : e -q 1 // parts *q e ≤q y → AtLeast e y
   least-absolute : e -q 1 // 2 ^ 1000 ≤q y → AtLeast e y
 
 -- y is at most e, within 2^-40 relative or 2^-1000 absolute
 pub data AtMost (e y : ℚ) : Type 0 where
-  most-relative : y ≤q e +q 1 // 2 ^ 40 *q e → AtMost e y
+  most-relative : y ≤q e +q 1 // parts *q e → AtMost e y
   most-absolute : y ≤q e +q 1 // 2 ^ 1000 → AtMost e y
 
 -- a number that is not negative and lies between E at lo and E at hi, each E any sum with enough terms

@@ -2,16 +2,18 @@
 ghost use mathlib.Core.Path.{_≡_};
 ghost use Prim.Native.Nat.{_*_, _^_, _≤_};
 ghost use lib.Dec.{T};
-ghost use mathlib.Core.Bool.{cond};
-ghost use lib.Ieee.{nan, le};
-ghost use Rattle.exact.specs.Float64.{_=f_, +0, +1};
+ghost use mathlib.Core.Bool.{true, cond};
+ghost use lib.Ieee.{nan, le, neg};
+ghost use Rattle.exact.specs.Float64.{_⊖_, _=f_, +0, +1};
 ghost use Rattle.exponential.specs.Mantissa.{hi};
 ghost use Rattle.exponential.specs.Exponential.{least, expFixed};
+ghost use Rattle.logarithm.specs.declared.Log.the-variants.{Above, Below};
 ghost use Rattle.power.specs.Power.{four, productOf, powerOf, sizeOf, downOf, raisedOf, zeroTo, powFrom, powOf, Fractional, Digits};
 use exponential::exp_fixed;
 use exponential::whole_part;
 use logarithm::Log;
 use logarithm::log_of;
+use logarithm::log_size;
 use wide::mulhi;
 
 // e^(t / 2^50), or its reciprocal.
@@ -70,7 +72,7 @@ fn raised(v: u64, below: bool, p: f64) -> f64
 }
 
 // The power of the base whose logarithm is l. The exponent 0 is tested last: it is rare.
-pub fn pow_of(l: Log, p: f64) -> f64
+fn pow_of(l: Log, p: f64) -> f64
     ensures { λ r. ⌜ r ≡ powFrom l p ⌝ }
 {
     match l {
@@ -112,9 +114,100 @@ pub fn pow(b: f64, p: f64) -> f64
     pow_of(log_of(b), p)
 }
 
-// For several powers of one base: an exponent from 2^-53 up to 1, in units of 2^-61. It serves the next layer, as does
-// `raise`: the exponents have been tested.
-pub fn exponent(a: f64) -> u64
+// ---- several powers of one base, by one logarithm
+pub struct TwoPowers {
+    pub first: f64,
+    pub second: f64,
+}
+
+pub struct FourPowers {
+    pub first: f64,
+    pub second: f64,
+    pub third: f64,
+    pub fourth: f64,
+}
+
+pub fn two_powers(b: f64, p: f64, q: f64) -> TwoPowers
+    ensures { λ r. ⌜ (r .first ≡ powOf b p) × (r .second ≡ powOf b q) ⌝ }
+{
+    let l = log_of(b);
+    let first = pow_of(l, p);
+    let second = pow_of(l, q);
+    TwoPowers { first, second }
+}
+
+pub fn four_powers(b: f64, p: f64, q: f64, s: f64, t: f64) -> FourPowers
+    ensures { λ r. ⌜ (r .first ≡ powOf b p) × (r .second ≡ powOf b q) × (r .third ≡ powOf b s) × (r .fourth ≡ powOf b t) ⌝ }
+{
+    let l = log_of(b);
+    let first = pow_of(l, p);
+    let second = pow_of(l, q);
+    let third = pow_of(l, s);
+    let fourth = pow_of(l, t);
+    FourPowers {
+        first,
+        second,
+        third,
+        fourth,
+    }
+}
+
+// b^-m, b^(1 - m), b^-n and b^(1 - n): quick where these exponents are fractions, and the size of the logarithm is at most 700.
+pub fn fractional_powers(b: f64, m: f64, n: f64) -> FourPowers
+    ensures { λ r. ⌜ (r .first ≡ powOf b (neg m)) × (r .second ≡ powOf b (+1 ⊖ m)) × (r .third ≡ powOf b (neg n)) × (r .fourth ≡ powOf b (+1 ⊖ n)) ⌝ }
+{
+    let v = log_size(b);
+    if v <= 6305039478318694400 {
+        if fractions(m) {
+            if fractions(n) {
+                return by_digits(v, b < 1.0, m, n);
+            }
+        }
+    }
+    four_powers(b, -m, 1.0 - m, -n, 1.0 - n)
+}
+
+// Whether the exponents m and 1 - m are both from 2^-53 up to 1.
+fn fractions(m: f64) -> bool
+    ensures { λ r. ⌜ (r ≡ true → Fractional m × Fractional (+1 ⊖ m)) ⌝ }
+{
+    if m >= 0.00000000000000011102230246251565 {
+        return 1.0 - m >= 0.00000000000000011102230246251565;
+    }
+    false
+}
+
+// The four powers for such exponents, by the size v of the logarithm. All digits are taken before the first power, so that nothing waits.
+fn by_digits(v: u64, below: bool, m: f64, n: f64) -> FourPowers
+    requires { ⌜ (v ≤ 700 * 2 ^ 53) × ((Fractional m × Fractional (+1 ⊖ m)) × (Fractional n × Fractional (+1 ⊖ n))) ⌝ }
+    ensures { λ r. ⌜ (r .first ≡ powFrom (cond below (Below v) (Above v)) (neg m)) × (r .second ≡ powFrom (cond below (Below v) (Above v)) (+1 ⊖ m)) × (r .third ≡ powFrom (cond below (Below v) (Above v)) (neg n)) × (r .fourth ≡ powFrom (cond below (Below v) (Above v)) (+1 ⊖ n)) ⌝ }
+{
+    let m_digits = exponent(m);
+    let m_rest = exponent(1.0 - m);
+    let n_digits = exponent(n);
+    let n_rest = exponent(1.0 - n);
+    let a = raise(v, m_digits);
+    let c = raise(v, m_rest);
+    let d = raise(v, n_digits);
+    let e = raise(v, n_rest);
+    if below {
+        return FourPowers {
+            first: a,
+            second: 1.0 / c,
+            third: d,
+            fourth: 1.0 / e,
+        };
+    }
+    FourPowers {
+        first: 1.0 / a,
+        second: c,
+        third: 1.0 / d,
+        fourth: e,
+    }
+}
+
+// An exponent from 2^-53 up to 1, in units of 2^-61.
+fn exponent(a: f64) -> u64
     requires { ⌜ Fractional a ⌝ }
     ensures { λ r. ⌜ Digits a r ⌝ }
 {
@@ -122,7 +215,7 @@ pub fn exponent(a: f64) -> u64
 }
 
 // e^(a * v / 2^53) for such an exponent a, by its digits.
-pub fn raise(v: u64, digits: u64) -> f64
+fn raise(v: u64, digits: u64) -> f64
     requires { ⌜ (v ≤ 700 * 2 ^ 53) × (digits ≤ 2 ^ 61) ⌝ }
     ensures { λ r. ⌜ r ≡ expFixed (8 * hi digits v) ⌝ }
 {

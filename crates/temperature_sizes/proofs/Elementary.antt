@@ -19,22 +19,11 @@ use Rattle.exact.proofs.StrictOrder.{not-≤-of-<, ≤-<-trans, <-≤-trans, li
 use Rattle.exact.proofs.FractionLaws.{≈-refl, ≈-sym, lit-≤, ≤-trans, ≤-of-≈, *-mono}
 use Rattle.exact.proofs.FractionProver.{qv, ##, _÷_, _⊟_, _⊞_, _⊠_, ⊝, linq, _⊑_by_}
 use Rattle.exact.proofs.Representable.{representable, representable-test}
-use Rattle.series.specs.Series.{E, Enough, partialSum, term, top, bot}
-use Rattle.series.proofs.Order.{E-nonneg, E-reciprocal, E-terms-above, E-mono}
-use Rattle.series.proofs.AtFractions.{E-above}
-use Rattle.series.proofs.Product.{bot-pos}
-use Rattle.series.proofs.Bounds.{doubled, up-doubled}
-use Rattle.series.proofs.Quotients.{frac-≤}
 use Rattle.exact.proofs.Rounding.{frac-nonneg}
-use Rattle.series.proofs.SmallArguments.{E-one-plus}
-use Rattle.series.proofs.Sizes.{E-at-most, E-at-least}
-use Rattle.exponential.proofs.Accuracy.{exp-close}
-use Rattle.power.specs.Accuracy.{AtLeast, least-relative, least-absolute, AtMost, most-relative, most-absolute, IsPower, Between, a-number, infinite}
-use Rattle.power.proofs.Accuracy.{pow-between}
-use Rattle.logarithm.specs.Logarithm.{leastNormal}
-use Rattle.logarithm.proofs.Accuracy.{ln-accurate}
-use Rattle.square_root.proofs.RootBounds.{root-nonNegative, root-≤}
 use Rattle.elementary.specs.Functions.{sqrtOf, expOf, lnOf, powOf}
+use Rattle.elementary.specs.Accuracy.{E, Enough, partialSum, term, top, bot, leastNormal, AtLeast, least-relative, least-absolute, AtMost, most-relative, most-absolute, IsPower, Between, a-number, infinite}
+use Rattle.elementary.proofs.Series.{E-nonneg, E-reciprocal, E-terms-above, E-mono, E-above, E-one-plus, E-at-most, E-at-least, bot-pos, doubled, up-doubled, frac-≤}
+use Rattle.elementary.proofs.Laws.{root-nonNegative, root-≤, exp-close, ln-accurate, pow-between}
 use Rattle.exact.specs.Size.{Range}
 use Rattle.exact.proofs.Computing.{computing}
 

@@ -27,11 +27,11 @@ returns c = rw (← c .before .before .region-at .ensures, c .enum-told .given .
 
 returns-2 : tie.Need-returns-2
 unfolding shichmanHodgesOf inRegionOf cutoffOf
-returns-2 c = rw (← c .before .before .before .region-at .ensures, c .before .enum-told2 .given .1) (cc)
+returns-2 c = rw (← c .before .before .before .region-at .ensures, c .before .enum-told2 .given .1) (c .triode .ensures)
 
 returns-3 : tie.Need-returns-3
 unfolding shichmanHodgesOf inRegionOf cutoffOf
-returns-3 c = rw (← c .before .before .before .region-at .ensures, c .before .enum-told3 .given .1) (cc)
+returns-3 c = rw (← c .before .before .before .region-at .ensures, c .before .enum-told3 .given .1) (c .saturation .ensures)
 
 pub shichman-hodges-spec : {M : Type 1} → statement M
 shichman-hodges-spec =

@@ -1,107 +1,19 @@
 -- `logarithm::log_bits` meets its contract. Assumes nothing.
-use mathlib.Core.Path.{_≡_, refl, sym, ap, _∙_, subst}
-use Prim.Native.Nat.{ℕ, _+_, _-_, _*_, _/_, _^_, _≤_, _<_}
-use native.Mathlib.Omega.{arith}
-use native.Mathlib.Nat.{le-trans}
-use lib.Dec.{lit≤}
-use lib.Bits.{and-mask, mask-lt}
-use lib.Count.{leadingZeros, leading-le}
-use mir.Facts.{fits-le, fits-lit, fits-bits}
+use mathlib.Core.Path.{refl, sym, _∙_}
+use borrow.Author.Needs.{needs}
 use borrow.Author.Tests.{lt-ltb, le-ltb}
-use Rattle.exact.proofs.LeadingDigits.{lead}
 use Rattle.exponential.proofs.Ranges.{cond-yes, cond-else}
-use Rattle.logarithm.specs.declared.Log.the-variants.{Above, Below}
-use Rattle.logarithm.specs.FixedPoint.{lnMantOf, twosOf}
-use Rattle.logarithm.specs.Logarithm.{logAbove, logBelow, logBits}
 use Rattle.logarithm.proofs.log_bits.Statement.{statement}
 use Rattle.logarithm.proofs.log_bits.Tie as tie
 
-from : (x : ℕ) → 2 ^ 62 ≤ (x + 2 ^ 52) * 1024
-from x = omega arith
-
-digits : (x : ℕ) → x < 2 ^ 52 → (x + 2 ^ 52) * 1024 < 2 ^ 63
-digits x h = omega arith
-
-cast-z : tie.Need-cast-z
-cast-z c = fits-le (leading-le 64 (c .before .args .bits)) (fits-lit tt)
-
-sub-log-below : tie.Need-sub-log-below
-sub-log-below c = le-trans (lit≤ tt) (lead 1 tt (c .before .args .bits) (c .before .pre .0) (c .if1 .taken) .low)
-
-shl-log-below : tie.Need-shl-log-below
-shl-log-below c = shift (leadingZeros 64 (c .before .args .bits)) (lead 1 tt (c .before .args .bits) (c .before .pre .0) (c .if1 .taken) .high)
-  where
-    shift : (z : ℕ) → z ≤ 63 → z - 1 < 64
-    shift z h = omega arith
-
-add-log-below : tie.Need-add-log-below
-add-log-below c = fits-bits 64 tt (sum _ (leading-le 64 (c .before .args .bits)))
-  where
-    sum : (z : ℕ) → z ≤ 64 → 1011 + z < 2 ^ 64
-    sum z h = omega arith
-
-log-below-requires : tie.Need-log-below-requires
-log-below-requires c κs =
-    let l = lead 1 tt (c .before .args .bits) (c .before .pre .0) (c .if1 .taken) in
-    (subst (λ (x : ℕ). 2 ^ 62 ≤ x) (sym (l .same)) (l .from), subst (λ (x : ℕ). x < 2 ^ 63) (sym (l .same)) (l .below), low _, high _ (l .high))
-  where
-    low : (z : ℕ) → 0 < 1011 + z
-    low z = omega arith
-
-    high : (z : ℕ) → z ≤ 63 → 1011 + z ≤ 1100
-    high z h = omega arith
+size-of-bits-requires : tie.Need-size-of-bits-requires
+size-of-bits-requires c κs = c .pre
 
 returns : tie.Need-returns
-unfolding logBits logBelow
-returns c =
-    let d = c .before .before in
-    let b = d .args .bits in
-    let l = lead 1 tt b (d .pre .0) (c .before .if1 .taken) in
-    ap Below (c .log-below .ensures ∙ ap (λ (m : ℕ). twosOf (1011 + leadingZeros 64 b) - lnMantOf m / 2048) (l .same)) ∙ cond-yes _ _ _ (lt-ltb b (2 ^ 52) (c .before .if1 .taken))
-
-add-m : tie.Need-add-m
-add-m c = fits-bits 64 tt (sum _ (mask-lt (c .before .args .bits) 52))
-  where
-    sum : (x : ℕ) → x < 2 ^ 52 → x + 2 ^ 52 < 2 ^ 64
-    sum x h = omega arith
-
-mul-m : tie.Need-mul-m
-mul-m c = fits-bits 64 tt (product _ (mask-lt (c .before .args .bits) 52))
-  where
-    product : (x : ℕ) → x < 2 ^ 52 → (x + 2 ^ 52) * 1024 < 2 ^ 64
-    product x h = omega arith
-
-sub-log-below-2 : tie.Need-sub-log-below-2
-sub-log-below-2 c = let h = c .if2 .taken in omega (arith, h)
-
-log-below-requires-2 : tie.Need-log-below-requires-2
-log-below-requires-2 c κs = (from _, digits _ (mask-lt (c .before .before .args .bits) 52), some _ (c .if2 .taken), few _)
-  where
-    some : (f : ℕ) → f < 1023 → 0 < 1023 - f
-    some f h = omega arith
-
-    few : (f : ℕ) → 1023 - f ≤ 1100
-    few f = omega arith
+returns c = cond-yes _ _ _ (lt-ltb _ 1023 (c .if1 .taken)) ∙ sym (c .before .size-of-bits .ensures)
 
 returns-2 : tie.Need-returns-2
-unfolding logBits logBelow
-returns-2 c =
-    let b = c .before .before .before .args .bits in
-    ap Below (c .log-below2 .ensures ∙ ap (λ (x : ℕ). twosOf (1023 - b / 2 ^ 52) - lnMantOf ((x + 2 ^ 52) * 1024) / 2048) (and-mask b 52))
-    ∙ cond-else _ _ _ _ (le-ltb b (2 ^ 52) (c .before .before .if1 .left)) (cond-yes _ _ _ (lt-ltb (b / 2 ^ 52) 1023 (c .before .if2 .taken)))
-
-log-above-requires : tie.Need-log-above-requires
-log-above-requires c κs = (from _, digits _ (mask-lt (c .before .before .args .bits) 52), field _ (c .before .before .pre .1))
-  where
-    field : (b : ℕ) → b < 2047 * 2 ^ 52 → b / 2 ^ 52 - 1023 ≤ 1100
-    field b h = omega arith
-
-returns-3 : tie.Need-returns-3
-unfolding logBits logAbove
-returns-3 c =
-    let b = c .before .before .before .args .bits in
-    ap Above (c .log-above .ensures ∙ ap (λ (x : ℕ). twosOf (b / 2 ^ 52 - 1023) + lnMantOf ((x + 2 ^ 52) * 1024) / 2048) (and-mask b 52))
-    ∙ cond-else _ _ _ _ (le-ltb b (2 ^ 52) (c .before .before .if1 .left)) (cond-else _ _ _ _ (le-ltb (b / 2 ^ 52) 1023 (c .before .if2 .left)) refl)
+returns-2 c = cond-else _ _ _ _ (le-ltb _ 1023 (c .if1 .left)) refl ∙ sym (c .before .size-of-bits .ensures)
 
 pub log-bits-spec : {M : Type 1} → statement M
-log-bits-spec = tie.close (tie.spec cast-z sub-log-below shl-log-below add-log-below log-below-requires returns add-m mul-m sub-log-below-2 log-below-requires-2 returns-2 log-above-requires returns-3)
+log-bits-spec = tie.close (tie.spec size-of-bits-requires returns returns-2)

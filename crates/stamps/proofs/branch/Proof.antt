@@ -11,7 +11,7 @@ companion-requires c κs = search needs
 
 returns : tie.Need-returns
 unfolding branchOf
-returns c = cc
+returns c = rw (c .companion .ensures, c .before .scale .ensures)
 
 pub branch-spec : {M : Type 1} → statement M
 branch-spec = tie.close (tie.spec scale-requires companion-requires returns)

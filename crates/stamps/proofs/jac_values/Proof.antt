@@ -11,7 +11,7 @@ series-requires-2 c κs = search needs
 
 returns : tie.Need-returns
 unfolding jacValuesOf
-returns c = cc
+returns c = rw (c .series2 .ensures, c .before .series .ensures)
 
 pub jac-values-spec : {M : Type 1} → statement M
 jac-values-spec = tie.close (tie.spec series-requires series-requires-2 returns)

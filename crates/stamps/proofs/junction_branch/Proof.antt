@@ -11,7 +11,7 @@ branch-requires c κs = search needs
 
 returns : tie.Need-returns
 unfolding junctionBranchOf
-returns c = cc
+returns c = rw (c .branch .ensures, c .before .has-junction .ensures)
 
 pub junction-branch-spec : {M : Type 1} → statement M
 junction-branch-spec = tie.close (tie.spec has-junction-requires branch-requires returns)

@@ -8,7 +8,7 @@ max-requires c κs = search needs
 
 returns : tie.Need-returns
 unfolding bodyPotentialOf
-returns c = cc
+returns c = rw (c .max .ensures)
 
 pub body-potential-spec : {M : Type 1} → statement M
 body-potential-spec = tie.close (tie.spec max-requires returns)

@@ -8,7 +8,7 @@ sqrt-requires c κs = search needs
 
 returns : tie.Need-returns
 unfolding bodySlopeOf
-returns c = rw (c .before .if1 .taken) (cc)
+returns c = rw (c .sqrt .ensures, c .before .if1 .taken)
 
 returns-2 : tie.Need-returns-2
 unfolding bodySlopeOf

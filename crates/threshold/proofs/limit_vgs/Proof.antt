@@ -14,7 +14,7 @@ ln-1p-requires c κs = search needs
 
 returns : tie.Need-returns
 unfolding limitedVgsOf cutStepOf
-returns c = rw (← c .before .before .before .abs .ensures, c .before .before .before .before .if1 .taken, c .before .before .if2 .taken) (cc)
+returns c = rw (c .«ln-1p» .ensures, c .before .signum .ensures, ← c .before .before .before .abs .ensures, c .before .before .before .before .if1 .taken, c .before .before .if2 .taken)
 
 returns-2 : tie.Need-returns-2
 unfolding limitedVgsOf cutStepOf

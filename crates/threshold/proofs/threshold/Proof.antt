@@ -11,7 +11,7 @@ sqrt-requires-2 c κs = search needs
 
 returns : tie.Need-returns
 unfolding thresholdOf
-returns c = cc
+returns c = rw (c .sqrt2 .ensures, c .before .sqrt .ensures)
 
 pub threshold-spec : {M : Type 1} → statement M
 threshold-spec = tie.close (tie.spec sqrt-requires sqrt-requires-2 returns)
