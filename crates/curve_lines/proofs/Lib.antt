@@ -1,3 +1,4 @@
 pub mod Cutting
 pub mod Reading
 pub mod Whole
+pub mod Room

@@ -24,7 +24,7 @@ pub holds-none : Holds (newLine false) []
 unfolding newLine kept
 holds-none = record { on = refl; room = refl; count = refl; first = refl }
 
-other-length : (w : List ℕ) → (length w ≡ 33 → ⊥) → pointOf w ≡ Bad
+pub other-length : (w : List ℕ) → (length w ≡ 33 → ⊥) → pointOf w ≡ Bad
 unfolding pointOf
 other-length w h = simp (ne-eqb (length w) 33 h)
 

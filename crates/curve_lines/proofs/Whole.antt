@@ -13,7 +13,7 @@ use Rattle.curve_text.specs.declared.Point.the-variants.{Good, Bad}
 use Rattle.channel_curve.specs.Curve.{pointOf}
 use Rattle.curve_lines.specs.declared.Line.{Line}
 use Rattle.curve_lines.specs.Printed.{heading, linesOf, longer, isBad, answersTo, printed}
-use Rattle.curve_lines.specs.Pieces.{newLine, kept, longerLine, lineAfter, textAfter, lineOf, textOf, lastText, wholeOf, piecesText}
+use Rattle.curve_lines.specs.Pieces.{newLine, kept, longerLine, lineAfter, textAfter, lineOf, textOf, lastText, inputOf, piecesText}
 use Rattle.curve_lines.proofs.Cutting.{ahead, ahead-line, ahead-none, ahead-longer}
 use Rattle.curve_lines.proofs.Reading.{Holds, holds-none, holds-longer, same-point}
 
@@ -92,15 +92,15 @@ unfolding lineOf
 line-pieces [] line t = refl
 line-pieces (b ∷ s) line t = line-pieces s (lineAfter line b) t
 
-together : (pieces : List (List ℕ)) (line : Line) → piecesText line pieces ≡ toCome line (wholeOf pieces)
-unfolding piecesText wholeOf textOf lineOf
+together : (pieces : List (List ℕ)) (line : Line) → piecesText line pieces ≡ toCome line (inputOf pieces)
+unfolding piecesText inputOf textOf lineOf
 together [] line = refl
 together (s ∷ rest) line =
     ap (λ (r : List ℕ). textOf line s ++ r) (together rest (lineOf line s))
-    ∙ sym (append-assoc (textOf line s) (textOf (lineOf line s) (wholeOf rest)) (lastText (lineOf (lineOf line s) (wholeOf rest))))
-    ∙ sym (ap₂ (λ (x : List ℕ) (l : Line). x ++ lastText l) (text-pieces s line (wholeOf rest)) (line-pieces s line (wholeOf rest)))
+    ∙ sym (append-assoc (textOf line s) (textOf (lineOf line s) (inputOf rest)) (lastText (lineOf (lineOf line s) (inputOf rest))))
+    ∙ sym (ap₂ (λ (x : List ℕ) (l : Line). x ++ lastText l) (text-pieces s line (inputOf rest)) (line-pieces s line (inputOf rest)))
 
 -- for every input and every way in which it comes in pieces
-pub prints-all : (pieces : List (List ℕ)) → heading ++ piecesText (newLine false) pieces ≡ printed (wholeOf pieces)
+pub prints-all : (pieces : List (List ℕ)) → heading ++ piecesText (newLine false) pieces ≡ printed (inputOf pieces)
 unfolding printed ahead
-prints-all pieces = ap (λ (s : List ℕ). heading ++ s) (together pieces (newLine false) ∙ from-here (wholeOf pieces) (newLine false) [] holds-none)
+prints-all pieces = ap (λ (s : List ℕ). heading ++ s) (together pieces (newLine false) ∙ from-here (inputOf pieces) (newLine false) [] holds-none)

@@ -42,9 +42,9 @@ unfoldable pub lastText : Line → List ℕ
 lastText line = cond (line .over) [] (cond (eqb (line .len) 0) [] (answerText (pointOf (kept line))))
 
 -- an input that comes in pieces: the whole of it, and what is printed for the pieces one after another, behind the heading
-unfoldable pub wholeOf : List (List ℕ) → List ℕ
-wholeOf [] = []
-wholeOf (s ∷ rest) = s ++ wholeOf rest
+unfoldable pub inputOf : List (List ℕ) → List ℕ
+inputOf [] = []
+inputOf (s ∷ rest) = s ++ inputOf rest
 
 unfoldable pub piecesText : Line → List (List ℕ) → List ℕ
 piecesText line [] = lastText line

@@ -4,9 +4,9 @@ use mathlib.Core.Bool.{Bool, false, cond}
 use lib.Ieee.{Float, nan, inf, add, le, lt, eq, ofBits}
 use Rattle.exact.specs.Float64.{_⊕_, _≤f_, +0, +1}
 use Rattle.logarithm.specs.Logarithm.{leastNormal, logOf, lnFrom, lnOf, ln1pOf}
+use Rattle.logarithm.specs.SpecialCases.{SpecialCases}
 
-pub record SpecialCases : Type 0 where
-  pub ln-of-one : lnOf +1 ≡ +0
+one : lnOf +1 ≡ +0
   pub ln-not-normal : (x : Float) → (leastNormal ≤f x) ≡ false → lnOf x ≡ nan
   pub ln-of-infinity : lnOf (inf false) ≡ nan
   pub ln-1p-negative : (a : Float) → (+0 ≤f a) ≡ false → ln1pOf a ≡ nan

@@ -2,3 +2,4 @@ pub mod LnTable
 pub mod FixedPoint
 pub mod Logarithm
 pub mod Accuracy
+pub mod SpecialCases

@@ -9,17 +9,7 @@ use Rattle.logarithm.specs.Logarithm.{logAbove, logBelow, logBits, logOf}
 use Rattle.logarithm.specs.declared.Log.{Log}
 use Rattle.logarithm.specs.declared.Log.the-variants.{Undefined, BaseZero, BaseOne, Above, Below}
 use Rattle.power.specs.Power.{four, minusFour, powerOf, productOf, raisedOf, powFrom, nonzeroPower, powOf}
-
-pub record SpecialCases : Type 0 where
-  pub exponent-zero : (b p : Float) → (p =f +0) ≡ true → powOf b p ≡ +1
-  pub base-one : (b p : Float) → (+0 <f b) ≡ true → (b <f inf false) ≡ true → (b =f +1) ≡ true → powOf b p ≡ +1
-  pub base-zero : (b p : Float) → (+0 <f b) ≡ false → (b =f +0) ≡ true → (p =f +0) ≡ false → (+0 <f p) ≡ true → powOf b p ≡ +0
-  pub base-zero-nan : (b p : Float) → (+0 <f b) ≡ false → (b =f +0) ≡ true → (p =f +0) ≡ false → (+0 <f p) ≡ false → powOf b p ≡ nan
-  pub base-not-positive : (b p : Float) → (+0 <f b) ≡ false → (b =f +0) ≡ false → (p =f +0) ≡ false → powOf b p ≡ nan
-  pub base-infinite : (b p : Float) → (+0 <f b) ≡ true → (b <f inf false) ≡ false → (p =f +0) ≡ false → powOf b p ≡ nan
-  pub exponent-above-four : (b p : Float) → (b =f +1) ≡ false → (b =f +0) ≡ false → (p =f +0) ≡ false → (four <f p) ≡ true → powOf b p ≡ nan
-  pub exponent-below-minus-four : (b p : Float) → (b =f +1) ≡ false → (b =f +0) ≡ false → (p =f +0) ≡ false → (p <f minusFour) ≡ true → powOf b p ≡ nan
-  pub exponent-nan : (b : Float) → (b =f +1) ≡ false → (b =f +0) ≡ false → powOf b nan ≡ nan
+use Rattle.power.specs.SpecialCases.{SpecialCases}
 
 not-zero : (l : Log) (p : Float) → (p =f +0) ≡ false → powFrom l p ≡ nonzeroPower l p
 unfolding powFrom

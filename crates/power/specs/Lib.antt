@@ -1,2 +1,3 @@
 pub mod Power
 pub mod Accuracy
+pub mod SpecialCases
