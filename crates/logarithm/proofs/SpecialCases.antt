@@ -7,12 +7,6 @@ use Rattle.logarithm.specs.Logarithm.{leastNormal, logOf, lnFrom, lnOf, 
 use Rattle.logarithm.specs.SpecialCases.{SpecialCases}
 
 one : lnOf +1 ≡ +0
-  pub ln-not-normal : (x : Float) → (leastNormal ≤f x) ≡ false → lnOf x ≡ nan
-  pub ln-of-infinity : lnOf (inf false) ≡ nan
-  pub ln-1p-negative : (a : Float) → (+0 ≤f a) ≡ false → ln1pOf a ≡ nan
-  pub ln-1p-of-infinity : ln1pOf (inf false) ≡ nan
-
-one : lnOf +1 ≡ +0
 unfolding lnOf logOf ofBits le lt eq
 one = refl
 

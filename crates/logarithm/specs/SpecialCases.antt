@@ -7,4 +7,8 @@ use Rattle.exact.specs.Float64.{_≤f_, +0, +1}
 use Rattle.logarithm.specs.Logarithm.{leastNormal, lnOf, ln1pOf}
 
 pub record SpecialCases : Type 0 where
-  pub ln-of-
+  pub ln-of-one : lnOf +1 ≡ +0
+  pub ln-not-normal : (x : Float) → (leastNormal ≤f x) ≡ false → lnOf x ≡ nan
+  pub ln-of-infinity : lnOf (inf false) ≡ nan
+  pub ln-1p-negative : (a : Float) → (+0 ≤f a) ≡ false → ln1pOf a ≡ nan
+  pub ln-1p-of-infinity : ln1pOf (inf false) ≡ nan
