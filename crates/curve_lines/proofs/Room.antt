@@ -1,22 +1,25 @@
--- How much room the text of a piece needs: two and a half bytes for each byte that is read, and four for a bad line.
+-- How much room the text of a piece needs: two and a half bytes for each byte that is read, and four for a bad line. So the
+-- program's buffers hold all that is printed, and nothing is left out.
 use Prim.Native.Nat.{ℕ, zero, suc, _+_, _*_, _≤_, _<_, min}
 use mathlib.Core.Path.{_≡_, refl, sym, _∙_, ap}
 use mathlib.Core.Bool.{Bool, true, false, cond}
-use mathlib.Core.List.{List, [], _∷_, _++_}
+use mathlib.Core.List.{List, [], _∷_, _++_, append-nil, append-assoc}
+use native.Mathlib.Numerals.{add-one}
 use native.Mathlib.Omega.{arith}
 use lib.Dec.{eqb, ltb}
 use lib.Ieee.{Float, binary64, isNan, toBits}
-use lib.ListN.{length, take, set, length-append, length-take}
-use borrow.Author.Tests.{eqb-true, eqb-false}
+use lib.ListN.{length, take, set, length-append, length-take, length-set}
+use lib.Seq.{take-suc-set}
+use borrow.Author.Tests.{eqb-true, eqb-false, ltb-true, lt-ltb}
 use Rattle.device.specs.declared.OperatingPoint.{OperatingPoint}
-use Rattle.hex.specs.Text.{digitsOf, numberText}
+use Rattle.hex.specs.Text.{after, endOf, textAt, digitsOf, numberText}
 use Rattle.curve_text.specs.Answer.{answerText, pointText}
 use Rattle.curve_text.specs.declared.Point.{Point}
 use Rattle.curve_text.specs.declared.Point.the-variants.{Good, Bad}
 use Rattle.channel_curve.specs.Curve.{pointOf}
 use Rattle.curve_lines.specs.declared.Line.{Line}
-use Rattle.curve_lines.specs.Printed.{isBad}
-use Rattle.curve_lines.specs.Pieces.{newLine, kept, longerLine, lineAfter, textAfter, textOf}
+use Rattle.curve_lines.specs.Printed.{heading, isBad}
+use Rattle.curve_lines.specs.Pieces.{newLine, kept, longerLine, lineAfter, textAfter, lineOf, textOf, lastText}
 use Rattle.curve_lines.proofs.Reading.{other-length}
 
 digits-size : (k b : ℕ) → length (digitsOf k b) ≡ k
@@ -92,3 +95,64 @@ text-fits (b ∷ s) line = by-test (line .over) refl (eqb b 10) (text-fits s (ne
     by-test true e t fresh same = let none : length (textOf line s) ≡ 0 = ap length (quiet line s e) in omega arith
     by-test false e true fresh same = newline-size line s (from-none (2 * length (textOf (newLine false) s)) s fresh)
     by-test false e false fresh same = omega (arith, longer-size line b)
+
+-- a line that is being read has 34 bytes at most
+longer-bound : (line : Line) (b : ℕ) → line .len ≤ 34 → longerLine line b .len ≤ 34
+unfolding longerLine
+longer-bound line b h = by-test (ltb (line .len) 34) refl
+  where
+    by-test : (t : Bool) → ltb (line .len) 34 ≡ t → cond t (record { bytes = set (line .bytes) (line .len) b; len = line .len + 1; over = line .over }) line .len ≤ 34
+    by-test true e = omega (arith, ltb-true (line .len) 34 e)
+    by-test false e = h
+
+after-bound : (line : Line) (b : ℕ) → line .len ≤ 34 → lineAfter line b .len ≤ 34
+unfolding lineAfter newLine
+after-bound line b h = by-test (line .over) (eqb b 10)
+  where
+    by-test : (o t : Bool) → cond o line (cond t (newLine (isBad (pointOf (kept line)))) (longerLine line b)) .len ≤ 34
+    by-test true t = h
+    by-test false true = omega arith
+    by-test false false = longer-bound line b h
+
+pub line-bound : (s : List ℕ) (line : Line) → line .len ≤ 34 → lineOf line s .len ≤ 34
+unfolding lineOf
+line-bound [] line h = h
+line-bound (b ∷ s) line h = line-bound s (lineAfter line b) (after-bound line b h)
+
+after-is : (n at : ℕ) → at < n → after n at ≡ at + 1
+unfolding after
+after-is n at h = simp (lt-ltb at n h)
+
+-- a text that has room is written whole
+written-whole : (s out : List ℕ) (at : ℕ) → at + length s ≤ length out → take (endOf (length out) at s) (textAt out at s) ≡ take at out ++ s
+unfolding endOf textAt
+written-whole [] out at h = sym (append-nil (take at out))
+written-whole (b ∷ s) out at h =
+    let next : after (length out) at ≡ at + 1 = after-is (length out) at (omega arith) in
+    let size : length (set out at b) ≡ length out = length-set out at b in
+    let first : take (at + 1) (set out at b) ≡ take at out ++ (b ∷ []) = ap (λ (n : ℕ). take n (set out at b)) (add-one at) ∙ take-suc-set out at b (omega arith) in
+    ap (λ (n : ℕ). take (endOf (length out) n s) (textAt (set out at b) n s)) next
+    ∙ ap (λ (n : ℕ). take (endOf n (at + 1) s) (textAt (set out at b) (at + 1) s)) (sym size)
+    ∙ written-whole s (set out at b) (at + 1) (omega arith)
+    ∙ ap (λ (r : List ℕ). r ++ s) first
+    ∙ append-assoc (take at out) (b ∷ []) s
+
+-- the buffers of the program hold the text of a piece of 4,096 bytes, of a last line and of the heading
+pub piece-whole : (line : Line) (s out : List ℕ) → line .len ≤ 34 → length s ≤ 4096 → length out ≡ 16384 → take (endOf (length out) 0 (textOf line s)) (textAt out 0 (textOf line s)) ≡ textOf line s
+piece-whole line s out l m n = written-whole (textOf line s) out 0 (omega (arith, text-fits s line))
+
+last-size : (line : Line) → length (lastText line) ≤ 85
+unfolding lastText
+last-size line = by-test (line .over) (eqb (line .len) 0)
+  where
+    by-test : (o t : Bool) → length (cond o [] (cond t [] (answerText (pointOf (kept line))))) ≤ 85
+    by-test true t = omega arith
+    by-test false true = omega arith
+    by-test false false = answer-size (pointOf (kept line))
+
+pub last-whole : (line : Line) (out : List ℕ) → length out ≡ 96 → take (endOf (length out) 0 (lastText line)) (textAt out 0 (lastText line)) ≡ lastText line
+last-whole line out n = written-whole (lastText line) out 0 (omega (arith, last-size line))
+
+pub heading-whole : (out : List ℕ) → length out ≡ 96 → take (endOf (length out) 0 heading) (textAt out 0 heading) ≡ heading
+unfolding heading
+heading-whole out n = written-whole heading out 0 (omega arith)
