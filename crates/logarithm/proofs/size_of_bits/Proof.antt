@@ -35,21 +35,21 @@ shl-log-below c = shift (leadingZeros 64 (c .before .args .bits)) (lead 1 tt (c 
     shift z h = omega arith
 
 add-log-below : tie.Need-add-log-below
-add-log-below c = fits-bits 64 tt (sum _ (leading-le 64 (c .before .args .bits)))
+add-log-below c = fits-bits 64 tt (sum _ _ (lit≤ tt) (leading-le 64 (c .before .args .bits)))
   where
-    sum : (z : ℕ) → z ≤ 64 → 1011 + z < 2 ^ 64
-    sum z h = omega arith
+    sum : (k z : ℕ) → k ≤ 1011 → z ≤ 64 → k + z < 2 ^ 64
+    sum k z h g = omega (arith, h, g)
 
 log-below-requires : tie.Need-log-below-requires
 log-below-requires c κs =
     let l = lead 1 tt (c .before .args .bits) (c .before .pre .0) (c .if1 .taken) in
-    (subst (λ (x : ℕ). 2 ^ 62 ≤ x) (sym (l .same)) (l .from), subst (λ (x : ℕ). x < 2 ^ 63) (sym (l .same)) (l .below), low _, high _ (l .high))
+    (subst (λ (x : ℕ). 2 ^ 62 ≤ x) (sym (l .same)) (l .from), subst (λ (x : ℕ). x < 2 ^ 63) (sym (l .same)) (l .below), low _ _ (lit≤ tt), high _ _ (lit≤ tt) (l .high))
   where
-    low : (z : ℕ) → 0 < 1011 + z
-    low z = omega arith
+    low : (k z : ℕ) → 1 ≤ k → 0 < k + z
+    low k z h = omega (arith, h)
 
-    high : (z : ℕ) → z ≤ 63 → 1011 + z ≤ 1100
-    high z h = omega arith
+    high : (k z : ℕ) → k ≤ 1011 → z ≤ 63 → k + z ≤ 1100
+    high k z h g = omega (arith, h, g)
 
 returns : tie.Need-returns
 unfolding logBits logBelow

@@ -1,8 +1,9 @@
 -- `power::exponent` meets its contract. Assumes nothing.
 use mathlib.Core.Path.{sym, ap, subst}
 use Prim.Native.Nat.{ℕ, _*_, _^_, _≤_, _<_}
+use native.Mathlib.Nat.{mul-le-mul-left}
 use native.Mathlib.Omega.{arith}
-use lib.Dec.{T}
+use lib.Dec.{T, lit≤}
 use mir.Facts.{fits-bits}
 use Rattle.power.proofs.FractionalExponents.{fractional-le-greatest, digits-few}
 use Rattle.power.proofs.exponent.Statement.{statement}
@@ -14,10 +15,10 @@ whole-part-requires c κs = (c .pre .at-least, fractional-le-greatest (c .args .
 mul-result : tie.Need-mul-result
 mul-result c =
     let d = c .before in
-    fits-bits 64 tt (small _ (digits-few (d .args .a) (subst T (sym (d .good .0 .1)) tt) (d .pre) _ (c .whole-part .ensures)))
+    fits-bits 64 tt (small _ _ (lit≤ tt) (digits-few (d .args .a) (subst T (sym (d .good .0 .1)) tt) (d .pre) _ (c .whole-part .ensures)))
   where
-    small : (r : ℕ) → r * 256 ≤ 2 ^ 61 → r * 256 < 2 ^ 64
-    small r h = omega arith
+    small : (r k : ℕ) → k ≤ 256 → r * 256 ≤ 2 ^ 61 → r * k < 2 ^ 64
+    small r k h g = let m : r * k ≤ r * 256 = mul-le-mul-left r h in omega (arith, m, g)
 
 returns : tie.Need-returns
 returns c =

@@ -2,8 +2,9 @@
 use mathlib.Core.Path.{sym, ap, _∙_, subst}
 use borrow.Author.Needs.{needs}
 use Prim.Native.Nat.{ℕ, _*_, _/_, _^_, _≤_, _<_}
+use native.Mathlib.Nat.{mul-le-mul-left}
 use native.Mathlib.Omega.{arith}
-use lib.Dec.{T}
+use lib.Dec.{T, lit≤}
 use mir.Facts.{fits-bits}
 use Rattle.power.specs.Power.{productOf}
 use Rattle.power.proofs.Exponents.{not-below-least, four-le-greatest, fixed-le}
@@ -16,10 +17,10 @@ whole-part-requires c κs = let p = c .args .p in (c .pre .0, four-le-greatest p
 mul-mulhi : tie.Need-mul-mulhi
 mul-mulhi c =
     let d = c .before in
-    fits-bits 64 tt (small _ (fixed-le (d .args .p) (subst T (sym (d .good .0 .1)) tt) (not-below-least (d .args .p) (d .pre .0) (d .pre .1)) (d .pre .1) _ (c .whole-part .ensures)))
+    fits-bits 64 tt (small _ _ (lit≤ tt) (fixed-le (d .args .p) (subst T (sym (d .good .0 .1)) tt) (not-below-least (d .args .p) (d .pre .0) (d .pre .1)) (d .pre .1) _ (c .whole-part .ensures)))
   where
-    small : (r : ℕ) → r ≤ 2 ^ 55 → r * 256 < 2 ^ 64
-    small r h = omega arith
+    small : (r k : ℕ) → k ≤ 256 → r ≤ 2 ^ 55 → r * k < 2 ^ 64
+    small r k h g = let m : r * k ≤ r * 256 = mul-le-mul-left r h in omega (arith, m, g)
 
 mulhi-requires : tie.Need-mulhi-requires
 mulhi-requires c κs = search needs
