@@ -9,6 +9,7 @@ use model::calls::Evaluation;
 use model::small_signal::Noise;
 use model::small_signal::Reactances;
 use mosfet1::steps::Conditions;
+use prefixes::first_numbers;
 use script::number::Method;
 use script::number::Node;
 use script::number::Number;
@@ -20,7 +21,6 @@ use script::number::read_whole;
 use script::word::same;
 use script::word::word;
 use script_lists::Count;
-use script_lists::first_numbers;
 use setup::SetupAnswer;
 use temperature::Kelvin;
 

@@ -5,15 +5,15 @@ use crate::replies::Session;
 use card::CardAnswer;
 use device::Mosfet1;
 use geometry::GeometryAnswer;
+use prefixes::first_bytes;
+use prefixes::first_numbers;
+use prefixes::first_places;
 use script::number::Whole;
 use script::number::read_whole;
 use script::word::same;
 use script::word::word;
 use script::word::word_count;
 use script_lists::Count;
-use script_lists::first_bytes;
-use script_lists::first_numbers;
-use script_lists::first_places;
 ghost use Prim.Native.Nat.{_≤_};
 
 // The session that a call leaves, and what it answers.

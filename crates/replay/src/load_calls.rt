@@ -4,14 +4,14 @@ use crate::replies::Reply;
 use device::Mosfet1;
 use loading::LoadAnswer;
 use loading::LoadKind;
+use prefixes::first_columns;
+use prefixes::first_places;
 use script::number::Number;
 use script::number::read_number;
 use script::word::same;
 use script::word::until;
 use script::word::word;
 use script_lists::Count;
-use script_lists::first_columns;
-use script_lists::first_places;
 
 // Direct current, transient with its alpha, or a word that is neither.
 enum Kind {

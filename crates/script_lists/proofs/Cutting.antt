@@ -57,10 +57,3 @@ next-two w i h = ap twos (drop-cons w (2 * i) 0 (omega arith) ∙ ap (λ (s : Li
 pub no-two : (w : List ℕ) (i : ℕ) → length w ≤ 2 * i → twos (drop (2 * i) w) ≡ []
 unfolding twos
 no-two w i h = ap twos (drop-of-length-le w h)
-
--- the first n places, cut out from the start
-pub from-zero : {A : Type 0} (n : ℕ) (s : List A) → take (n - 0) (drop 0 s) ≡ take n s
-from-zero n s = ap (λ (k : ℕ). take k s) less-none
-  where
-    less-none : n - 0 ≡ n
-    less-none = omega arith

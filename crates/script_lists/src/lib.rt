@@ -1,16 +1,11 @@
 // A script's lists, comma separated, `-` the empty one, into lent slices.
 mod byte_list;
 mod column_list;
-mod first;
 mod number_list;
 mod pair_list;
 
 pub use byte_list::bytes;
 pub use column_list::columns;
-pub use first::first_bytes;
-pub use first::first_columns;
-pub use first::first_numbers;
-pub use first::first_places;
 pub use number_list::numbers;
 pub use pair_list::pairs;
 

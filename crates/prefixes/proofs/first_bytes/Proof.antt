@@ -1,12 +1,12 @@
 use mathlib.Core.Path.{_≡_, sym}
 use native.Mathlib.Omega.{arith}
 use lib.Seq.{take-all}
-use Rattle.script_lists.proofs.Cutting.{from-zero}
+use Rattle.prefixes.proofs.Cutting.{from-zero}
 use borrow.Author.Needs.{needs}
-use Rattle.script_lists.proofs.first.first_bytes.Statement.{statement}
-use Rattle.script_lists.proofs.first.first_bytes.Tie as tie
-use Rattle.script_lists.proofs.first.first_bytes.Reads as reads
-use Rattle.script_lists.proofs.first.first_bytes.Lts as lts
+use Rattle.prefixes.proofs.first_bytes.Statement.{statement}
+use Rattle.prefixes.proofs.first_bytes.Tie as tie
+use Rattle.prefixes.proofs.first_bytes.Reads as reads
+use Rattle.prefixes.proofs.first_bytes.Lts as lts
 
 sub-result : tie.Need-sub-result
 sub-result c = search needs
