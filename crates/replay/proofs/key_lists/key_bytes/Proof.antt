@@ -12,7 +12,7 @@ use Rattle.replay.proofs.key_lists.key_length.Reads as key-length-reads
 use Rattle.script.proofs.word.skip_spaces.Reads as skip-spaces-reads
 use Rattle.script.proofs.word.until.Reads as until-reads
 use Rattle.script.proofs.word.word_start.Reads as word-start-reads
-use Rattle.script_lists.proofs.first_bytes.Reads as first-bytes-reads
+use Rattle.prefixes.proofs.first_bytes.Reads as first-bytes-reads
 
 abbrev Inv-loop : tie.InvT-loop
 Inv-loop line k bytes₀ at₀ used₀ bytes at used = (at ≤ length line) × (length bytes ≡ length bytes₀)
