@@ -38,6 +38,17 @@ logOf b =
     (cond (b <f inf false) (cond (b =f +1) BaseOne (logBits (toBits binary64 b))) Undefined)
     (cond (b =f +0) BaseZero Undefined)
 
+-- the size of a logarithm, and a number above every size for a base that has none or is 1
+unfoldable pub sizeOfLog : Log → ℕ
+sizeOfLog (Above v) = v
+sizeOfLog (Below v) = v
+sizeOfLog Undefined = 0xffff_ffff_ffff_ffff
+sizeOfLog BaseZero = 0xffff_ffff_ffff_ffff
+sizeOfLog BaseOne = 0xffff_ffff_ffff_ffff
+
+unfoldable pub logSizeOf : Float → ℕ
+logSizeOf b = sizeOfLog (logOf b)
+
 -- 2^-1022, the least positive normal number, and 2^-53
 abbrev pub leastNormal : Float
 leastNormal = ofBits binary64 0x0010_0000_0000_0000

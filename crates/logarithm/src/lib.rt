@@ -8,7 +8,7 @@ ghost use Rattle.exact.specs.Float64.{_<f_, +1};
 ghost use Rattle.logarithm.specs.LnTable.{lnTable, inverseOf};
 ghost use Rattle.logarithm.specs.FixedPoint.{nearOne, limit, lnMantOf, twosOf};
 ghost use Rattle.logarithm.specs.declared.Log.the-variants.{Above, Below};
-ghost use Rattle.logarithm.specs.Logarithm.{logBits, logOf, roundedOf, lnFrom, lnOf, ln1pOf};
+ghost use Rattle.logarithm.specs.Logarithm.{logBits, logOf, logSizeOf, roundedOf, lnFrom, lnOf, ln1pOf};
 use wide::mulhi;
 
 // ln(1 + z), z and the result in units of 2^-64. The first three products do not wait for one another.
@@ -99,9 +99,10 @@ fn log_bits(bits: u64) -> Log
     Log::Above(v)
 }
 
-// The size of the logarithm of b, where b is positive and finite, not 1, and the size at most 760; otherwise a number above these.
+// The size of the logarithm of b, and a number above every size where b is not positive, not finite, or 1. With a size below that
+// number the sign is told by a comparison with 1.
 pub fn log_size(b: f64) -> u64
-    ensures { λ r. ⌜ (r ≤ 760 * 2 ^ 53 → logOf b ≡ cond (b <f +1) (Below r) (Above r)) ⌝ }
+    ensures { λ r. ⌜ (r ≡ logSizeOf b) × (r ≤ 760 * 2 ^ 53 → logOf b ≡ cond (b <f +1) (Below r) (Above r)) ⌝ }
 {
     if b > 0.0 {
         if b < 1.0 / 0.0 {

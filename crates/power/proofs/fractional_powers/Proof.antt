@@ -34,7 +34,7 @@ unfolding powOf
 returns c =
     let d = c .before .before .before .before .before in
     let a = d .before .before .args in
-    let e = sym (d .before .log-size .ensures (room _ (d .if1 .taken))) in
+    let e = sym (d .before .log-size .ensures .1 (room _ (d .if1 .taken))) in
     let r = c .by-digits .ensures in (
       r .0 ∙ ap (λ (l : Log). powFrom l (neg (a .m))) e,
       r .1 ∙ ap (λ (l : Log). powFrom l (+1 ⊖ a .m)) e,
