@@ -12,7 +12,7 @@ ghost use Rattle.places.specs.Places.{nodeAt, terminalsAt};
 ghost use Rattle.adding.specs.Adding.{addAt, addNode, addSources, currentPair, offsetSources, sourceContributions, addAll, addFour, addBranches};
 
 // A value added to an entry; a place behind the end is skipped.
-fn add_at(xs: &mut [f64], place: usize, x: f64)
+pub fn add_at(xs: &mut [f64], place: usize, x: f64)
     ensures { λ r. ⌜ now (xs .exit) ≡ addAt (now (xs .entry)) place x ⌝ }
 {
     if place < xs.len() {
@@ -82,7 +82,7 @@ pub fn add_matrix(
 }
 
 // `stamp_hist`: the history current into the node a and out of the node b.
-fn add_history(xs: &mut [f64], a: usize, b: usize, loaded: bool, i_hist: f64)
+pub fn add_history(xs: &mut [f64], a: usize, b: usize, loaded: bool, i_hist: f64)
     ensures { λ r. ⌜ now (xs .exit) ≡ addSources (cond loaded (currentPair (nodeAt a) (nodeAt b) «i_hist») []) (now (xs .entry)) ⌝ }
 {
     if loaded {
@@ -92,7 +92,7 @@ fn add_history(xs: &mut [f64], a: usize, b: usize, loaded: bool, i_hist: f64)
 }
 
 // `load_residual`.
-fn add_offsets(xs: &mut [f64], n: Nodes, o: Residual)
+pub fn add_offsets(xs: &mut [f64], n: Nodes, o: Residual)
     ensures { λ r. ⌜ now (xs .exit) ≡ addSources (offsetSources (terminalsAt n) o) (now (xs .entry)) ⌝ }
 {
     let d = n.drain;

@@ -34,7 +34,7 @@ fn unbound(stage: Stage) -> bool
     device::before(stage, Stage::Bound)
 }
 
-fn unevaluated(stage: Stage) -> bool
+pub fn unevaluated(stage: Stage) -> bool
     ensures { λ r. ⌜ r ≡ unevaluated stage ⌝ }
 {
     device::before(stage, Stage::Evaluated)
@@ -77,7 +77,7 @@ fn any_node_beyond(n: usize, t: Terminals) -> bool
 }
 
 // Row 8. A node below the smaller of the two lengths is below both.
-fn nodes_outside(stage: Stage, t: Terminals, len: usize, rows: usize) -> bool
+pub fn nodes_outside(stage: Stage, t: Terminals, len: usize, rows: usize) -> bool
     ensures { λ r. ⌜ r ≡ nodesOutside stage t len rows ⌝ }
 {
     if unbound(stage) {
@@ -96,7 +96,7 @@ fn alpha_inside(alpha: f64) -> bool
 }
 
 // Row 11.
-fn alpha_outside(disc: Discretisation, kind: LoadKind) -> bool
+pub fn alpha_outside(disc: Discretisation, kind: LoadKind) -> bool
     ensures { λ r. ⌜ r ≡ alphaOutside disc kind ⌝ }
 {
     match kind {

@@ -83,7 +83,7 @@ pub fn jac_pairs(t: Terminals) -> [Position; 24]
 }
 
 // A series resistance's conductance, 0 where there is none.
-fn series(r: f64) -> f64
+pub fn series(r: f64) -> f64
     ensures { λ g. ⌜ g ≡ seriesOf r ⌝ }
 {
     if r > 0.0 {
@@ -198,79 +198,106 @@ fn junction_branch(
     branch(pos, neg, c, c * v, q, remembers, disc, alpha, hist)
 }
 
-pub fn charge_branches(d: Mosfet1, alpha: f64) -> ChargeBranches
-    ensures { λ r. ⌜ r ≡ chargeBranchesOf d alpha ⌝ }
+// The gate-source branch: it is linear, so the Jacobian's term at its voltage is its charge.
+pub fn gs_branch(d: Mosfet1, alpha: f64) -> ChargeBranch
+    ensures { λ r. ⌜ r ≡ chargeBranchesOf d alpha .gs ⌝ }
 {
     let t = d.terminals;
-    let g = d.geometry;
-    let q = d.charges;
-    let h = d.histories;
-    let disc = d.disc;
     let gate = t.gate;
     let source = t.source;
+    let disc = d.disc;
+    let c = d.charges.cgs_eval;
+    let q = d.charges.q_gs_eval;
+    let hist = d.histories.gs_hist;
+    branch(gate, source, c, q, q, true, disc, alpha, hist)
+}
+
+// The gate-drain branch: it is linear, so the Jacobian's term at its voltage is its charge.
+pub fn gd_branch(d: Mosfet1, alpha: f64) -> ChargeBranch
+    ensures { λ r. ⌜ r ≡ chargeBranchesOf d alpha .gd ⌝ }
+{
+    let t = d.terminals;
+    let gate = t.gate;
     let drain = t.drain;
+    let disc = d.disc;
+    let c = d.charges.cgd_eval;
+    let q = d.charges.q_gd_eval;
+    let hist = d.histories.gd_hist;
+    branch(gate, drain, c, q, q, true, disc, alpha, hist)
+}
+
+// The gate-bulk branch: it is linear, so the Jacobian's term at its voltage is its charge.
+pub fn gb_branch(d: Mosfet1, alpha: f64) -> ChargeBranch
+    ensures { λ r. ⌜ r ≡ chargeBranchesOf d alpha .gb ⌝ }
+{
+    let t = d.terminals;
+    let gate = t.gate;
     let bulk = t.bulk;
-    let gs_hist = h.gs_hist;
-    let gd_hist = h.gd_hist;
-    let gb_hist = h.gb_hist;
-    let bs_hist = h.bs_hist;
-    let bd_hist = h.bd_hist;
-    let gs = branch(
-        gate,
-        source,
-        q.cgs_eval,
-        q.q_gs_eval,
-        q.q_gs_eval,
-        true,
-        disc,
-        alpha,
-        gs_hist,
-    );
-    let gd = branch(
-        gate,
-        drain,
-        q.cgd_eval,
-        q.q_gd_eval,
-        q.q_gd_eval,
-        true,
-        disc,
-        alpha,
-        gd_hist,
-    );
-    let gb = branch(
-        gate,
-        bulk,
-        q.cgb_eval,
-        q.q_gb_eval,
-        q.q_gb_eval,
-        true,
-        disc,
-        alpha,
-        gb_hist,
-    );
-    let bs = junction_branch(
+    let disc = d.disc;
+    let c = d.charges.cgb_eval;
+    let q = d.charges.q_gb_eval;
+    let hist = d.histories.gb_hist;
+    branch(gate, bulk, c, q, q, true, disc, alpha, hist)
+}
+
+pub fn bs_branch(d: Mosfet1, alpha: f64) -> ChargeBranch
+    ensures { λ r. ⌜ r ≡ chargeBranchesOf d alpha .bs ⌝ }
+{
+    let t = d.terminals;
+    let bulk = t.bulk;
+    let source = t.source;
+    let disc = d.disc;
+    let q = d.charges;
+    let bot = d.geometry.cbs_bot;
+    let sw = d.geometry.cbs_sw;
+    let hist = d.histories.bs_hist;
+    junction_branch(
         bulk,
         source,
         q.cbs_eval,
         q.vbs_eval,
         q.q_bs_eval,
-        g.cbs_bot,
-        g.cbs_sw,
+        bot,
+        sw,
         disc,
         alpha,
-        bs_hist,
-    );
-    let bd = junction_branch(
+        hist,
+    )
+}
+
+pub fn bd_branch(d: Mosfet1, alpha: f64) -> ChargeBranch
+    ensures { λ r. ⌜ r ≡ chargeBranchesOf d alpha .bd ⌝ }
+{
+    let t = d.terminals;
+    let bulk = t.bulk;
+    let drain = t.drain;
+    let disc = d.disc;
+    let q = d.charges;
+    let bot = d.geometry.cbd_bot;
+    let sw = d.geometry.cbd_sw;
+    let hist = d.histories.bd_hist;
+    junction_branch(
         bulk,
         drain,
         q.cbd_eval,
         q.vbd_eval,
         q.q_bd_eval,
-        g.cbd_bot,
-        g.cbd_sw,
+        bot,
+        sw,
         disc,
         alpha,
-        bd_hist,
-    );
-    ChargeBranches { gs, gd, gb, bs, bd }
+        hist,
+    )
+}
+
+pub fn charge_branches(d: Mosfet1, alpha: f64) -> ChargeBranches
+    ensures { λ r. ⌜ r ≡ chargeBranchesOf d alpha ⌝ }
+{
+    ChargeBranches {
+        gs: gs_branch(d, alpha),
+        gd: gd_branch(d, alpha),
+        gb: gb_branch(d, alpha),
+        bs: bs_branch(d, alpha),
+        bd: bd_branch(d, alpha),
+    }
 }

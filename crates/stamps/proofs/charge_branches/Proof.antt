@@ -1,35 +1,26 @@
-use Rattle.stamps.specs.Stamps.{chargeBranchesOf}
+-- `stamps::charge_branches`: each of the five.
 use Rattle.stamps.proofs.Records.{branches-same}
 use borrow.Author.Needs.{needs}
 use Rattle.stamps.proofs.charge_branches.Statement.{statement}
 use Rattle.stamps.proofs.charge_branches.Tie as tie
 
-branch-requires : tie.Need-branch-requires
-branch-requires c κs = search needs
+gs-branch-requires : tie.Need-gs-branch-requires
+gs-branch-requires c κs = search needs
 
-branch-requires-2 : tie.Need-branch-requires-2
-branch-requires-2 c κs = search needs
+gd-branch-requires : tie.Need-gd-branch-requires
+gd-branch-requires c κs = search needs
 
-branch-requires-3 : tie.Need-branch-requires-3
-branch-requires-3 c κs = search needs
+gb-branch-requires : tie.Need-gb-branch-requires
+gb-branch-requires c κs = search needs
 
-junction-branch-requires : tie.Need-junction-branch-requires
-junction-branch-requires c κs = search needs
+bs-branch-requires : tie.Need-bs-branch-requires
+bs-branch-requires c κs = search needs
 
-junction-branch-requires-2 : tie.Need-junction-branch-requires-2
-junction-branch-requires-2 c κs = search needs
+bd-branch-requires : tie.Need-bd-branch-requires
+bd-branch-requires c κs = search needs
 
 returns : tie.Need-returns
-unfolding chargeBranchesOf
-returns c = branches-same (c .before .before .before .before .branch .ensures) (c .before .before .before .branch2 .ensures) (c .before .before .branch3 .ensures) (c .before .junction-branch .ensures) (c .junction-branch2 .ensures)
+returns c = branches-same (c .before .before .before .before .gs-branch .ensures) (c .before .before .before .gd-branch .ensures) (c .before .before .gb-branch .ensures) (c .before .bs-branch .ensures) (c .bd-branch .ensures)
 
 pub charge-branches-spec : {M : Type 1} → statement M
-charge-branches-spec =
-    tie.close
-    (tie.spec
-    branch-requires
-    branch-requires-2
-    branch-requires-3
-    junction-branch-requires
-    junction-branch-requires-2
-    returns)
+charge-branches-spec = tie.close (tie.spec gs-branch-requires gd-branch-requires gb-branch-requires bs-branch-requires bd-branch-requires returns)

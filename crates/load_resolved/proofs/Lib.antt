@@ -1,0 +1,6 @@
+pub mod Folds
+pub mod Below
+pub mod Stored
+pub mod Held
+pub mod Outcomes
+pub mod Parts

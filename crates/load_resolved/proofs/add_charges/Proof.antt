@@ -1,0 +1,61 @@
+-- `load_resolved::add_charges`: the numbers are those of the device's nodes.
+use mathlib.Core.Path.{ap, _∙_}
+use denote.Ref.{now}
+use Rattle.stamps.specs.declared.ChargeBranches.{ChargeBranches}
+use Rattle.places.specs.Places.{nodesOf}
+use Rattle.places.specs.declared.Nodes.{Nodes}
+use Rattle.adding.specs.Adding.{addSources}
+use Rattle.load_resolved.specs.ByNumbers.{addBranchesStored, historySources}
+use borrow.Author.Needs.{needs}
+use Rattle.load_resolved.proofs.add_charges.Statement.{statement}
+use Rattle.load_resolved.proofs.add_charges.Tie as tie
+use Rattle.load_resolved.proofs.add_charges.Reads as reads
+use Rattle.load_resolved.proofs.add_charges.Lts as lts
+use Rattle.load_resolved.proofs.add_branches.Reads as add-branches-reads
+use Rattle.load_resolved.proofs.add_histories.Reads as add-histories-reads
+use Rattle.load_resolved.proofs.charge_branches.Reads as charge-branches-reads
+use Rattle.places.proofs.indices.Reads as indices-reads
+
+indices-requires : tie.Need-indices-requires
+indices-requires c κs = search needs
+
+charge-branches-requires : tie.Need-charge-branches-requires
+charge-branches-requires c κs = search needs
+
+add-branches-requires : tie.Need-add-branches-requires
+add-branches-requires c κs = search needs
+
+add-histories-requires : tie.Need-add-histories-requires
+add-histories-requires c κs = search needs
+
+same-length : tie.Need-same-length
+same-length c = search needs
+
+same-length-2 : tie.Need-same-length-2
+same-length-2 c = search needs
+
+returns : tie.Need-returns
+returns c =
+    let s = c .before .before .before .before .before .before .before .before .before .before .before .before in
+    let w = now (s .args .cells) in
+    let n = c .before .before .before .before .before .before .before .before .before .indices .ensures in
+    let b = c .before .before .before .before .before .before .before .before .charge-branches .ensures in (
+      c .before .before .before .before .before .before .add-branches .ensures
+          ∙ ap (λ (n : Nodes). addBranchesStored n w (c .before .before .before .before .before .before .before .before .charge-branches .result) (now (s .args .values))) n
+          ∙ ap (λ (b : ChargeBranches). addBranchesStored (nodesOf (s .args .d .terminals)) w b (now (s .args .values))) b,
+      c .before .before .add-histories .ensures
+          ∙ ap (λ (n : Nodes). addSources (historySources n (c .before .before .before .before .before .before .before .before .charge-branches .result)) (now (s .args .rhs))) n
+          ∙ ap (λ (b : ChargeBranches). addSources (historySources (nodesOf (s .args .d .terminals)) b) (now (s .args .rhs))) b,
+    )
+
+pub add-charges-spec : {M : Type 1} → statement M
+add-charges-spec =
+    tie.close
+    (tie.spec
+    indices-requires
+    charge-branches-requires
+    add-branches-requires
+    add-histories-requires
+    same-length
+    same-length-2
+    returns)

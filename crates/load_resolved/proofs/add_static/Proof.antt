@@ -1,0 +1,61 @@
+-- `load_resolved::add_static`: the numbers are those of the device's nodes.
+use mathlib.Core.Path.{ap, _∙_}
+use denote.Ref.{now}
+use Rattle.stamps.specs.Stamps.{jacPairsOf, jacValuesOf}
+use Rattle.stamps.specs.declared.Residual.{Residual}
+use Rattle.places.specs.Places.{nodesOf, terminalsAt}
+use Rattle.places.specs.declared.Nodes.{Nodes}
+use Rattle.adding.specs.Adding.{addSources, offsetSources}
+use Rattle.assembly.specs.Assembly.{paired}
+use Rattle.load_resolved.specs.LoadResolved.{numbersFrom, addStored}
+use borrow.Author.Needs.{needs}
+use Rattle.load_resolved.proofs.add_static.Statement.{statement}
+use Rattle.load_resolved.proofs.add_static.Tie as tie
+use Rattle.load_resolved.proofs.add_static.Reads as reads
+use Rattle.load_resolved.proofs.add_static.Lts as lts
+use Rattle.adding.proofs.add_offsets.Reads as add-offsets-reads
+use Rattle.load_resolved.proofs.add_jacobian.Reads as add-jacobian-reads
+use Rattle.places.proofs.indices.Reads as indices-reads
+use Rattle.stamps.proofs.residual_values.Reads as residual-values-reads
+
+indices-requires : tie.Need-indices-requires
+indices-requires c κs = search needs
+
+add-jacobian-requires : tie.Need-add-jacobian-requires
+add-jacobian-requires c κs = search needs
+
+residual-values-requires : tie.Need-residual-values-requires
+residual-values-requires c κs = search needs
+
+add-offsets-requires : tie.Need-add-offsets-requires
+add-offsets-requires c κs = search needs
+
+same-length : tie.Need-same-length
+same-length c = search needs
+
+same-length-2 : tie.Need-same-length-2
+same-length-2 c = search needs
+
+returns : tie.Need-returns
+returns c =
+    let s = c .before .before .before .before .before .before .before .before .before .before .before .before in
+    let d = s .args .d in
+    let w = now (s .args .cells) in
+    let n = c .before .before .before .before .before .before .before .before .before .indices .ensures in (
+      c .before .before .before .before .before .before .before .add-jacobian .ensures ∙ ap (λ (n : Nodes). addStored (paired (jacPairsOf (terminalsAt n)) (jacValuesOf d)) (numbersFrom w 8 24) (now (s .args .values))) n,
+      c .before .before .add-offsets .ensures
+          ∙ ap (λ (n : Nodes). addSources (offsetSources (terminalsAt n) (c .before .before .before .before .residual-values .result)) (now (s .args .rhs))) n
+          ∙ ap (λ (o : Residual). addSources (offsetSources (terminalsAt (nodesOf (d .terminals))) o) (now (s .args .rhs))) (c .before .before .before .before .residual-values .ensures),
+    )
+
+pub add-static-spec : {M : Type 1} → statement M
+add-static-spec =
+    tie.close
+    (tie.spec
+    indices-requires
+    add-jacobian-requires
+    residual-values-requires
+    add-offsets-requires
+    same-length
+    same-length-2
+    returns)

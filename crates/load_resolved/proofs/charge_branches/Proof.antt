@@ -1,0 +1,41 @@
+-- `load_resolved::charge_branches`: each of the five.
+use Rattle.stamps.proofs.Records.{branches-same}
+use borrow.Author.Needs.{needs}
+use Rattle.load_resolved.proofs.charge_branches.Statement.{statement}
+use Rattle.load_resolved.proofs.charge_branches.Tie as tie
+use Rattle.load_resolved.proofs.charge_branches.Reads as reads
+use Rattle.load_resolved.proofs.charge_branches.Lts as lts
+use Rattle.stamps.proofs.bd_branch.Reads as bd-branch-reads
+use Rattle.stamps.proofs.bs_branch.Reads as bs-branch-reads
+use Rattle.stamps.proofs.gb_branch.Reads as gb-branch-reads
+use Rattle.stamps.proofs.gd_branch.Reads as gd-branch-reads
+use Rattle.stamps.proofs.gs_branch.Reads as gs-branch-reads
+
+gs-branch-requires : tie.Need-gs-branch-requires
+gs-branch-requires c κs = search needs
+
+gd-branch-requires : tie.Need-gd-branch-requires
+gd-branch-requires c κs = search needs
+
+gb-branch-requires : tie.Need-gb-branch-requires
+gb-branch-requires c κs = search needs
+
+bs-branch-requires : tie.Need-bs-branch-requires
+bs-branch-requires c κs = search needs
+
+bd-branch-requires : tie.Need-bd-branch-requires
+bd-branch-requires c κs = search needs
+
+returns : tie.Need-returns
+returns c = branches-same (c .before .before .before .before .gs-branch .ensures) (c .before .before .before .gd-branch .ensures) (c .before .before .gb-branch .ensures) (c .before .bs-branch .ensures) (c .bd-branch .ensures)
+
+pub charge-branches-spec : {M : Type 1} → statement M
+charge-branches-spec =
+    tie.close
+    (tie.spec
+    gs-branch-requires
+    gd-branch-requires
+    gb-branch-requires
+    bs-branch-requires
+    bd-branch-requires
+    returns)

@@ -1,0 +1,575 @@
+// A load by cells that were looked up before: no pattern, no search (`load_residual`, `load_jacobian` and their transient forms of
+// mosfet1.rs over `jac_cells`). The cells are 37 numbers of the caller's, in the order of `resolve`; all of them is tested before
+// the first write. `adding` and `stamps` have the same sums for the load that searches: there each large function must keep its one
+// caller, or the compiler makes calls of them, and a load takes a third longer.
+use device::Charges;
+use device::Mosfet1;
+use device::OperatingPoint;
+use loading::LoadAnswer;
+use loading::LoadKind;
+use places::Nodes;
+use stamps::ChargeBranch;
+use stamps::ChargeBranches;
+ghost use mathlib.Core.Path.{_≡_};
+ghost use mathlib.Core.Bool.{Bool, true, cond, not, _&&_, _||_};
+ghost use mathlib.Core.List.{[], _∷_};
+ghost use lib.ListN.{length, getD};
+ghost use lib.Dec.{eqb, ltb};
+ghost use Rattle.exact.specs.Float64.{_≠f_, +0};
+ghost use Rattle.device.specs.Stages.{unevaluated};
+ghost use Rattle.stamps.specs.Stamps.{position, jacPairsOf, jacValuesOf, residualOf, pairBetween, valuesBetween, channelValues, chargeBranchesOf};
+ghost use Rattle.places.specs.Places.{nodeAt, nodesOf, terminalsAt};
+ghost use Rattle.adding.specs.Adding.{addSources, offsetSources, branchHistory};
+ghost use Rattle.assembly.specs.Assembly.{addPlace, paired, conductancePair};
+ghost use Rattle.loading.specs.Loading.{nodesOutside, alphaOutside, earlyRow, outcomeOfLoad, jacobianContributions, branchesOf};
+ghost use Rattle.load_resolved.specs.LoadResolved.{numbersFrom, madeFor, storedPlace, addStored, allStored, branchPlaces, cellsHeld, resolvedRowOf, LoadedResolved};
+ghost use Rattle.load_resolved.specs.ByNumbers.{cellThere, pairsStored, branchStored, branchesStored, allBelow, nodesAre, held, isTransient, placeBetween, addChannel, addPair, addBranch, addBranchesStored, historySources};
+
+// The number of ground among the nodes, and of a place that is skipped.
+const SKIPPED: usize = 18446744073709551615;
+
+fn both(a: bool, b: bool) -> bool
+    ensures { λ r. ⌜ r ≡ (a && b) ⌝ }
+{
+    if a {
+        return b;
+    }
+    false
+}
+
+// A cell has a ground end, or its place is among the values.
+fn cell_there(row: usize, column: usize, place: usize, len: usize) -> bool
+    ensures { λ r. ⌜ r ≡ cellThere len row column place ⌝ }
+{
+    if row == SKIPPED {
+        return true;
+    }
+    if column == SKIPPED {
+        return true;
+    }
+    place < len
+}
+
+// The four cells of a conductance between the nodes a and b, and what else was asked.
+fn four_there(
+    a: usize,
+    b: usize,
+    aa: usize,
+    ab: usize,
+    ba: usize,
+    bb: usize,
+    len: usize,
+    rest: bool,
+) -> bool
+    ensures { λ r. ⌜ r ≡ (cellThere len a a aa && (cellThere len a b ab && (cellThere len b a ba && (cellThere len b b bb && rest)))) ⌝ }
+{
+    let last = both(cell_there(b, b, bb, len), rest);
+    let third = both(cell_there(b, a, ba, len), last);
+    let second = both(cell_there(a, b, ab, len), third);
+    both(cell_there(a, a, aa, len), second)
+}
+
+// The channel's eight cells, and what else was asked.
+fn channel_there(n: Nodes, cells: &[usize; 37], len: usize, rest: bool) -> bool
+    ensures { λ r. ⌜ r ≡ (cellThere len (n .drain) (n .gate) (getD (now (cells .entry)) 8 0) && (cellThere len (n .drain) (n .drain) (getD (now (cells .entry)) 9 0)
+        && (cellThere len (n .drain) (n .source) (getD (now (cells .entry)) 10 0) && (cellThere len (n .drain) (n .bulk) (getD (now (cells .entry)) 11 0)
+        && (cellThere len (n .source) (n .gate) (getD (now (cells .entry)) 12 0) && (cellThere len (n .source) (n .drain) (getD (now (cells .entry)) 13 0)
+        && (cellThere len (n .source) (n .source) (getD (now (cells .entry)) 14 0) && (cellThere len (n .source) (n .bulk) (getD (now (cells .entry)) 15 0) && rest)))))))) ⌝ }
+{
+    let sb = both(cell_there(n.source, n.bulk, cells[15], len), rest);
+    let ss = both(cell_there(n.source, n.source, cells[14], len), sb);
+    let sd = both(cell_there(n.source, n.drain, cells[13], len), ss);
+    let sg = both(cell_there(n.source, n.gate, cells[12], len), sd);
+    let db = both(cell_there(n.drain, n.bulk, cells[11], len), sg);
+    let ds = both(cell_there(n.drain, n.source, cells[10], len), db);
+    let dd = both(cell_there(n.drain, n.drain, cells[9], len), ds);
+    both(cell_there(n.drain, n.gate, cells[8], len), dd)
+}
+
+// The 24 pairs' cells.
+fn pairs_there(n: Nodes, cells: &[usize; 37], len: usize) -> bool
+    ensures { λ r. ⌜ r ≡ pairsStored len (jacPairsOf (terminalsAt n)) (numbersFrom (now (cells .entry)) 8 24) ⌝ }
+{
+    let d = n.drain;
+    let s = n.source;
+    let b = n.bulk;
+    let bd = four_there(b, d, cells[28], cells[29], cells[30], cells[31], len, true);
+    let bs = four_there(b, s, cells[24], cells[25], cells[26], cells[27], len, bd);
+    let rs = four_there(
+        n.source_ext,
+        s,
+        cells[20],
+        cells[21],
+        cells[22],
+        cells[23],
+        len,
+        bs,
+    );
+    let rd = four_there(
+        n.drain_ext,
+        d,
+        cells[16],
+        cells[17],
+        cells[18],
+        cells[19],
+        len,
+        rs,
+    );
+    channel_there(n, cells, len, rd)
+}
+
+// A charge branch's four cells, where it conducts.
+fn branch_there(
+    conducts: bool,
+    a: usize,
+    b: usize,
+    aa: usize,
+    ab: usize,
+    bb: usize,
+    ba: usize,
+    len: usize,
+) -> bool
+    ensures { λ r. ⌜ r ≡ branchStored len conducts a b aa ab bb ba ⌝ }
+{
+    if conducts {
+        let last = both(cell_there(b, a, ba, len), true);
+        let third = both(cell_there(b, b, bb, len), last);
+        let second = both(cell_there(a, b, ab, len), third);
+        return both(cell_there(a, a, aa, len), second);
+    }
+    true
+}
+
+fn branches_there(n: Nodes, cells: &[usize; 37], len: usize, q: Charges) -> bool
+    ensures { λ r. ⌜ r ≡ branchesStored len n (now (cells .entry)) q ⌝ }
+{
+    let d = n.drain;
+    let g = n.gate;
+    let s = n.source;
+    let b = n.bulk;
+    let gs = branch_there(
+        q.cgs_eval != 0.0,
+        g,
+        s,
+        cells[32],
+        cells[33],
+        cells[14],
+        cells[12],
+        len,
+    );
+    let gd = branch_there(
+        q.cgd_eval != 0.0,
+        g,
+        d,
+        cells[32],
+        cells[34],
+        cells[9],
+        cells[8],
+        len,
+    );
+    let gb = branch_there(
+        q.cgb_eval != 0.0,
+        g,
+        b,
+        cells[32],
+        cells[35],
+        cells[24],
+        cells[36],
+        len,
+    );
+    let bs = branch_there(
+        q.cbs_eval != 0.0,
+        b,
+        s,
+        cells[24],
+        cells[25],
+        cells[14],
+        cells[15],
+        len,
+    );
+    let bd = branch_there(
+        q.cbd_eval != 0.0,
+        b,
+        d,
+        cells[24],
+        cells[29],
+        cells[9],
+        cells[11],
+        len,
+    );
+    let two = both(gs, gd);
+    let three = both(two, gb);
+    let four = both(three, bs);
+    both(four, bd)
+}
+
+fn four_below(p: usize, q: usize, r: usize, s: usize, len: usize, rest: bool) -> bool
+    ensures { λ o. ⌜ o ≡ (ltb p len && (ltb q len && (ltb r len && (ltb s len && rest)))) ⌝ }
+{
+    let last = both(s < len, rest);
+    let third = both(r < len, last);
+    let second = both(q < len, third);
+    both(p < len, second)
+}
+
+// Every place is among the values: then it does not matter which are ground's.
+fn all_below(cells: &[usize; 37], len: usize) -> bool
+    ensures { λ r. ⌜ r ≡ allBelow len (numbersFrom (now (cells .entry)) 8 29) ⌝ }
+{
+    let g = both(cells[36] < len, true);
+    let f = four_below(cells[32], cells[33], cells[34], cells[35], len, g);
+    let e = four_below(cells[28], cells[29], cells[30], cells[31], len, f);
+    let d = four_below(cells[24], cells[25], cells[26], cells[27], len, e);
+    let c = four_below(cells[20], cells[21], cells[22], cells[23], len, d);
+    let b = four_below(cells[16], cells[17], cells[18], cells[19], len, c);
+    let a = four_below(cells[12], cells[13], cells[14], cells[15], len, b);
+    four_below(cells[8], cells[9], cells[10], cells[11], len, a)
+}
+
+fn nodes_are(n: Nodes, cells: &[usize; 37]) -> bool
+    ensures { λ r. ⌜ r ≡ nodesAre (now (cells .entry)) n ⌝ }
+{
+    let two = both(n.drain_ext == cells[0], n.source_ext == cells[1]);
+    let three = both(two, n.drain == cells[2]);
+    let four = both(three, n.gate == cells[3]);
+    let five = both(four, n.source == cells[4]);
+    both(five, n.bulk == cells[5])
+}
+
+// Row 13 does not apply. The usual case, all places among the values, is asked first.
+fn cells_held(n: Nodes, cells: &[usize; 37], len: usize, q: Charges, transient: bool) -> bool
+    ensures { λ r. ⌜ r ≡ held len n (now (cells .entry)) q transient ⌝ }
+{
+    if !nodes_are(n, cells) {
+        return false;
+    }
+    if all_below(cells, len) {
+        return true;
+    }
+    if !pairs_there(n, cells, len) {
+        return false;
+    }
+    if transient {
+        return branches_there(n, cells, len, q);
+    }
+    true
+}
+
+fn is_transient(kind: LoadKind) -> bool
+    ensures { λ r. ⌜ r ≡ isTransient kind ⌝ }
+{
+    match kind {
+        LoadKind::DirectCurrent => false,
+        LoadKind::Transient(_) => true,
+    }
+}
+
+// Rows 8, 10, 11 and 12 in this order, 0 where none applies. The stored row and value counts stand for the pattern's.
+fn early_row(d: Mosfet1, kind: LoadKind, rhs: usize, values: usize, rows: usize, count: usize) -> u8
+    ensures { λ r. ⌜ r ≡ earlyRow (nodesOutside (d .stage) (d .terminals) rhs rows) (unevaluated (d .stage)) (alphaOutside (d .disc) kind) (not (eqb values count)) ⌝ }
+{
+    let stage = d.stage;
+    let disc = d.disc;
+    if loading::nodes_outside(stage, d.terminals, rhs, rows) {
+        return 8;
+    }
+    if loading::unevaluated(stage) {
+        return 10;
+    }
+    if loading::alpha_outside(disc, kind) {
+        return 11;
+    }
+    if values != count {
+        return 12;
+    }
+    0
+}
+
+// The row that refuses a load into a right-hand side of so many rows and so many values, 0 where none does.
+pub fn resolved_row(
+    d: Mosfet1,
+    kind: LoadKind,
+    cells: &[usize; 37],
+    rhs: usize,
+    values: usize,
+) -> u8
+    ensures { λ r. ⌜ r ≡ resolvedRowOf d kind (now (cells .entry)) rhs values ⌝ }
+{
+    let rows = cells[6];
+    let count = cells[7];
+    let row = early_row(d, kind, rhs, values, rows, count);
+    if row != 0 {
+        return row;
+    }
+    let n = places::indices(d.terminals);
+    let transient = is_transient(kind);
+    if !cells_held(n, cells, values, d.charges, transient) {
+        return 13;
+    }
+    0
+}
+
+fn place_between(row: usize, column: usize, place: usize) -> usize
+    ensures { λ r. ⌜ r ≡ placeBetween row column place ⌝ }
+{
+    if row == SKIPPED {
+        return SKIPPED;
+    }
+    if column == SKIPPED {
+        return SKIPPED;
+    }
+    place
+}
+
+// A value added at a stored place, unless an end of its position is ground.
+fn add_cell(xs: &mut [f64], row: usize, column: usize, place: usize, x: f64)
+    ensures { λ r. ⌜ now (xs .exit) ≡ addPlace (storedPlace (position (nodeAt row) (nodeAt column)) place) x (now (xs .entry)) ⌝ }
+{
+    let at = place_between(row, column, place);
+    adding::add_at(xs, at, x);
+}
+
+// The channel's eight values.
+fn add_channel(xs: &mut [f64], n: Nodes, cells: &[usize; 37], p: OperatingPoint)
+    ensures { λ r. ⌜ now (xs .exit) ≡ addChannel n (now (cells .entry)) p (now (xs .entry)) ⌝ }
+{
+    let d = n.drain;
+    let g = n.gate;
+    let s = n.source;
+    let b = n.bulk;
+    let gm = p.gm;
+    let gds = p.gds;
+    let gmbs = p.gmbs;
+    let gms = gm + gds + gmbs;
+    add_cell(xs, d, g, cells[8], gm);
+    add_cell(xs, d, d, cells[9], gds);
+    add_cell(xs, d, s, cells[10], -gms);
+    add_cell(xs, d, b, cells[11], gmbs);
+    add_cell(xs, s, g, cells[12], -gm);
+    add_cell(xs, s, d, cells[13], -gds);
+    add_cell(xs, s, s, cells[14], gms);
+    add_cell(xs, s, b, cells[15], -gmbs);
+}
+
+// A conductance between the nodes a and b, in the order of `jac_pairs`.
+fn add_pair(xs: &mut [f64], a: usize, b: usize, g: f64, aa: usize, ab: usize, ba: usize, bb: usize)
+    ensures { λ r. ⌜ now (xs .exit) ≡ addPair a b g aa ab ba bb (now (xs .entry)) ⌝ }
+{
+    add_cell(xs, a, a, aa, g);
+    add_cell(xs, a, b, ab, -g);
+    add_cell(xs, b, a, ba, -g);
+    add_cell(xs, b, b, bb, g);
+}
+
+// `load_jacobian`: the channel, the series resistances, the junctions.
+fn add_jacobian(xs: &mut [f64], n: Nodes, cells: &[usize; 37], d: Mosfet1)
+    ensures { λ r. ⌜ now (xs .exit) ≡ addStored (paired (jacPairsOf (terminalsAt n)) (jacValuesOf d)) (numbersFrom (now (cells .entry)) 8 24) (now (xs .entry)) ⌝ }
+{
+    let g_d = stamps::series(d.geometry.rd);
+    let g_s = stamps::series(d.geometry.rs);
+    let drain = n.drain;
+    let source = n.source;
+    let bulk = n.bulk;
+    let drain_ext = n.drain_ext;
+    let source_ext = n.source_ext;
+    let gbs = d.point.gbs;
+    let gbd = d.point.gbd;
+    add_channel(xs, n, cells, d.point);
+    add_pair(
+        xs,
+        drain_ext,
+        drain,
+        g_d,
+        cells[16],
+        cells[17],
+        cells[18],
+        cells[19],
+    );
+    add_pair(
+        xs,
+        source_ext,
+        source,
+        g_s,
+        cells[20],
+        cells[21],
+        cells[22],
+        cells[23],
+    );
+    add_pair(
+        xs,
+        bulk,
+        source,
+        gbs,
+        cells[24],
+        cells[25],
+        cells[26],
+        cells[27],
+    );
+    add_pair(
+        xs,
+        bulk,
+        drain,
+        gbd,
+        cells[28],
+        cells[29],
+        cells[30],
+        cells[31],
+    );
+}
+
+// A charge branch's conductance at its four cells, in the order of `stamp_g_pair`.
+fn add_branch(
+    xs: &mut [f64],
+    br: ChargeBranch,
+    a: usize,
+    b: usize,
+    aa: usize,
+    ab: usize,
+    bb: usize,
+    ba: usize,
+)
+    ensures { λ r. ⌜ now (xs .exit) ≡ addBranch br a b aa ab bb ba (now (xs .entry)) ⌝ }
+{
+    let g = br.conductance;
+    if br.conducts {
+        add_cell(xs, a, a, aa, g);
+        add_cell(xs, a, b, ab, -g);
+        add_cell(xs, b, b, bb, g);
+        add_cell(xs, b, a, ba, -g);
+    }
+}
+
+fn add_branches(xs: &mut [f64], n: Nodes, cells: &[usize; 37], b: ChargeBranches)
+    ensures { λ r. ⌜ now (xs .exit) ≡ addBranchesStored n (now (cells .entry)) b (now (xs .entry)) ⌝ }
+{
+    let gate = n.gate;
+    let drain = n.drain;
+    let source = n.source;
+    let bulk = n.bulk;
+    add_branch(
+        xs,
+        b.gs,
+        gate,
+        source,
+        cells[32],
+        cells[33],
+        cells[14],
+        cells[12],
+    );
+    add_branch(
+        xs,
+        b.gd,
+        gate,
+        drain,
+        cells[32],
+        cells[34],
+        cells[9],
+        cells[8],
+    );
+    add_branch(
+        xs,
+        b.gb,
+        gate,
+        bulk,
+        cells[32],
+        cells[35],
+        cells[24],
+        cells[36],
+    );
+    add_branch(
+        xs,
+        b.bs,
+        bulk,
+        source,
+        cells[24],
+        cells[25],
+        cells[14],
+        cells[15],
+    );
+    add_branch(
+        xs,
+        b.bd,
+        bulk,
+        drain,
+        cells[24],
+        cells[29],
+        cells[9],
+        cells[11],
+    );
+}
+
+// The history currents of gs, gd, gb, bs, bd.
+fn add_histories(xs: &mut [f64], n: Nodes, b: ChargeBranches)
+    ensures { λ r. ⌜ now (xs .exit) ≡ addSources (historySources n b) (now (xs .entry)) ⌝ }
+{
+    let drain = n.drain;
+    let gate = n.gate;
+    let source = n.source;
+    let bulk = n.bulk;
+    let gs = b.gs;
+    let gd = b.gd;
+    let gb = b.gb;
+    let bs = b.bs;
+    let bd = b.bd;
+    adding::add_history(xs, gate, source, gs.remembers, gs.history);
+    adding::add_history(xs, gate, drain, gd.remembers, gd.history);
+    adding::add_history(xs, gate, bulk, gb.remembers, gb.history);
+    adding::add_history(xs, bulk, source, bs.remembers, bs.history);
+    adding::add_history(xs, bulk, drain, bd.remembers, bd.history);
+}
+
+fn charge_branches(d: Mosfet1, alpha: f64) -> ChargeBranches
+    ensures { λ r. ⌜ r ≡ chargeBranchesOf d alpha ⌝ }
+{
+    ChargeBranches {
+        gs: stamps::gs_branch(d, alpha),
+        gd: stamps::gd_branch(d, alpha),
+        gb: stamps::gb_branch(d, alpha),
+        bs: stamps::bs_branch(d, alpha),
+        bd: stamps::bd_branch(d, alpha),
+    }
+}
+
+// `load_jacobian` and `load_residual`. It serves the load, which has asked for the rows before.
+pub fn add_static(d: Mosfet1, cells: &[usize; 37], rhs: &mut [f64], values: &mut [f64])
+    ensures { λ r. ⌜ (now (values .exit) ≡ addStored (paired (jacPairsOf (terminalsAt (nodesOf (d .terminals)))) (jacValuesOf d)) (numbersFrom (now (cells .entry)) 8 24) (now (values .entry)))
+        × (now (rhs .exit) ≡ addSources (offsetSources (terminalsAt (nodesOf (d .terminals))) (residualOf d)) (now (rhs .entry))) ⌝ }
+{
+    let n = places::indices(d.terminals);
+    add_jacobian(values, n, cells, d);
+    let o = stamps::residual_values(d);
+    adding::add_offsets(rhs, n, o);
+}
+
+// What `load_jacobian_tran` and `load_residual_tran` add to that: the charge branches.
+pub fn add_charges(d: Mosfet1, alpha: f64, cells: &[usize; 37], rhs: &mut [f64], values: &mut [f64])
+    ensures { λ r. ⌜ (now (values .exit) ≡ addBranchesStored (nodesOf (d .terminals)) (now (cells .entry)) (chargeBranchesOf d alpha) (now (values .entry)))
+        × (now (rhs .exit) ≡ addSources (historySources (nodesOf (d .terminals)) (chargeBranchesOf d alpha)) (now (rhs .entry))) ⌝ }
+{
+    let n = places::indices(d.terminals);
+    let b = charge_branches(d, alpha);
+    add_branches(values, n, cells, b);
+    add_histories(rhs, n, b);
+}
+
+// A load by cells that were looked up before. A refused one leaves both slices as they were.
+pub fn load_resolved(
+    d: Mosfet1,
+    kind: LoadKind,
+    cells: &[usize; 37],
+    rhs: &mut [f64],
+    values: &mut [f64],
+) -> LoadAnswer
+    ensures { λ r. ⌜ LoadedResolved d kind (now (cells .entry)) (now (rhs .entry)) (now (values .entry)) (outcomeOfLoad r) (now (rhs .exit)) (now (values .exit)) ⌝ }
+{
+    let row = resolved_row(d, kind, cells, rhs.len(), values.len());
+    if row != 0 {
+        return LoadAnswer::Refused(row);
+    }
+    add_static(d, cells, rhs, values);
+    match kind {
+        LoadKind::DirectCurrent => {}
+        LoadKind::Transient(alpha) => add_charges(d, alpha, cells, rhs, values),
+    }
+    LoadAnswer::Done
+}
