@@ -1,6 +1,6 @@
 -- A load by cells that were looked up before (`load_residual`, `load_jacobian` and their transient forms of mosfet1.rs over `jac_cells`). The
 -- numbers w are the caller's, as `resolve` answers them (its specs/Resolve lists them); whatever they are, the load is defined.
-use Prim.Native.Nat.{ℕ, zero, suc}
+use Prim.Native.Nat.{ℕ}
 use mathlib.Core.Path.{_≡_}
 use mathlib.Core.Bool.{Bool, true, false, cond, not, _&&_, _||_}
 use mathlib.Core.List.{List, [], _∷_, _++_}
@@ -17,14 +17,10 @@ use Rattle.stamps.specs.declared.Position.{Position}
 use Rattle.stamps.specs.declared.ChargeBranch.{ChargeBranch}
 use Rattle.stamps.specs.declared.ChargeBranches.{ChargeBranches}
 use Rattle.places.specs.Places.{indexOf}
+unfoldable pub use Rattle.resolve.specs.Resolve.{numbersFrom}
 use Rattle.assembly.specs.Assembly.{Contribution, Source, Place, ground, at, addPlace, addSources}
 use Rattle.loading.specs.Loading.{nodesOutside, alphaOutside, branchesOf, jacobianContributions, rhsContributions, ifDone}
 use Rattle.loading.specs.declared.LoadKind.{LoadKind}
-
--- n numbers from the k-th on
-unfoldable pub numbersFrom : List ℕ → ℕ → ℕ → List ℕ
-numbersFrom w k zero = []
-numbersFrom w k (suc n) = getD w k 0 ∷ numbersFrom w (suc k) n
 
 -- the numbers were made for the device's nodes
 unfoldable pub madeFor : List ℕ → Terminals → Bool

@@ -218,7 +218,7 @@ fn gate_places(
     GatePlaces { gg, gs, gd, gb, bg }
 }
 
-fn none_missing(places: &[usize]) -> bool
+pub fn none_missing(places: &[usize]) -> bool
     ensures { λ r. ⌜ r ≡ noneMissing (now (places .entry)) ⌝ }
 {
     let mut k: usize = 0;

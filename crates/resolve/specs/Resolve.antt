@@ -1,12 +1,12 @@
 -- The cells of a bound device in a pattern, looked up once (`resolve_cells` of mosfet1.rs). They are 37 numbers that the caller holds, in
 -- place of the Rust's `jac_cells`.
-use Prim.Native.Nat.{ℕ}
+use Prim.Native.Nat.{ℕ, zero, suc}
 use mathlib.Core.Bool.{Bool, true, not, _&&_}
 use mathlib.Core.List.{List, [], _∷_, _++_}
-use lib.ListN.{length}
+use lib.ListN.{length, getD}
 use Rattle.pattern.specs.Pattern.{wellFormed}
 use Rattle.device.specs.Nodes.{anyNodeBeyond}
-use Rattle.device.specs.Refusals.{Row, unless, Outcome, done, refused, _when_}
+use Rattle.device.specs.Refusals.{Row, unless, rowNumber, Outcome, done, refused, _when_}
 use Rattle.device.specs.Stages.{unbound}
 use Rattle.device.specs.declared.Terminals.{Terminals}
 use Rattle.device.specs.declared.Mosfet1.{Mosfet1}
@@ -32,6 +32,11 @@ unfoldable pub resolvedCells : Terminals → Pattern → List ℕ
 resolvedCells t P =
     nodeNumbers t ++ (length (P .offsets) ∷ length (P .columns) ∷ []) ++ numbersOf P (jacPairsOf t) ++ numbersOf P (gatePairsOf t)
 
+-- n of the numbers from the k-th on
+unfoldable pub numbersFrom : List ℕ → ℕ → ℕ → List ℕ
+numbersFrom w k zero = []
+numbersFrom w k (suc n) = getD w k 0 ∷ numbersFrom w (suc k) n
+
 -- each position without a ground end is in the pattern
 unfoldable pub positionsThere : Pattern → List Position → Bool
 positionsThere P [] = true
@@ -54,3 +59,9 @@ resolveOf d P = unless (resolveRows d P) refused (done (resolvedCells (d .termin
 abbrev pub noCells : List ℕ
 noCells =
     0 ∷ 0 ∷ 0 ∷ 0 ∷ 0 ∷ 0 ∷ 0 ∷ 0 ∷ 0 ∷ 0 ∷ 0 ∷ 0 ∷ 0 ∷ 0 ∷ 0 ∷ 0 ∷ 0 ∷ 0 ∷ 0 ∷ 0 ∷ 0 ∷ 0 ∷ 0 ∷ 0 ∷ 0 ∷ 0 ∷ 0 ∷ 0 ∷ 0 ∷ 0 ∷ 0 ∷ 0 ∷ 0 ∷ 0 ∷ 0 ∷ 0 ∷ 0 ∷ []
+
+-- the number of the first three rows, 0 where none applies
+unfoldable pub earlyRowOf : Mosfet1 → Pattern → ℕ
+earlyRowOf d P =
+    rowNumber ((8 when (not (unbound (d .stage)) && anyNodeBeyond (length (P .offsets)) (d .terminals))) ∷ (10 when unbound (d .stage))
+    ∷ (12 when not (wellFormed (P .columns) (P .offsets) (P .lengths) (length (P .columns)))) ∷ [])

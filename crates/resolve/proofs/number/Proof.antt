@@ -1,3 +1,5 @@
+-- `resolve::number`: ground has no place, and a cell may be absent.
+use Rattle.places.specs.Places.{foundPlace, placeOf, placeNumber}
 use borrow.Author.Needs.{needs}
 use Rattle.resolve.proofs.number.Statement.{statement}
 use Rattle.resolve.proofs.number.Tie as tie
@@ -27,16 +29,20 @@ enum-told-3 : tie.Need-enum-told-3
 enum-told-3 c = search needs
 
 returns : tie.Need-returns
-returns c = ?
+unfolding placeOf placeNumber foundPlace
+returns c = rw (c .enum-told .given .1)
 
 returns-2 : tie.Need-returns-2
-returns-2 c = ?
+unfolding placeOf placeNumber foundPlace
+returns-2 c = rw (c .before .before .before .row .given .1, c .enum-told2 .given .1)
 
 returns-3 : tie.Need-returns-3
-returns-3 c = ?
+unfolding placeOf placeNumber foundPlace
+returns-3 c = rw (c .before .before .before .before .before .before .before .before .row .given .1, c .before .before .before .before .before .column .given .1, ← c .before .before .before .cell .ensures, c .before .p .given .1)
 
 returns-4 : tie.Need-returns-4
-returns-4 c = ?
+unfolding placeOf placeNumber foundPlace
+returns-4 c = rw (c .before .before .before .before .before .before .before .row .given .1, c .before .before .before .before .column .given .1, ← c .before .before .cell .ensures, c .enum-told3 .given .1)
 
 pub number-spec : {M : Type 1} → statement M
 number-spec =
