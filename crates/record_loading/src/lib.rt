@@ -8,7 +8,7 @@ ghost use Rattle.device.specs.Refusals.{number};
 ghost use Rattle.loading.specs.Loading.{outcomeOfLoad};
 ghost use Rattle.record_loading.specs.Load.{kindFrom, loadCall, loadedSide, loadedMatrix};
 
-fn kind_from(transient: u64, alpha: f64) -> LoadKind
+pub fn kind_from(transient: u64, alpha: f64) -> LoadKind
     ensures { λ r. ⌜ r ≡ kindFrom transient alpha ⌝ }
 {
     if transient == 0 {
@@ -18,7 +18,7 @@ fn kind_from(transient: u64, alpha: f64) -> LoadKind
     }
 }
 
-fn load_number(a: LoadAnswer) -> u64
+pub fn load_number(a: LoadAnswer) -> u64
     ensures { λ r. ⌜ r ≡ number (outcomeOfLoad a) ⌝ }
 {
     match a {

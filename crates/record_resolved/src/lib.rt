@@ -1,0 +1,108 @@
+// Looking up the cells of a device that is a record, and loading it by them.
+use record::DeviceRecord;
+ghost use mathlib.Core.Path.{_≡_};
+ghost use Rattle.assembly.specs.Assembly.{Pattern};
+ghost use Rattle.device.specs.Refusals.{number, valuesOr};
+ghost use Rattle.resolve.specs.Resolve.{noCells};
+ghost use Rattle.record_resolved.specs.Resolved.{resolveCall, loadResolvedCall, resolvedSide, resolvedMatrix};
+
+// The cells, and the number of the refusal; a refused call answers zeros.
+#[repr(C)]
+pub struct ResolveOutcome {
+    pub refusal: u64,
+    pub cells: [usize; 37],
+}
+
+fn unknown_tag() -> ResolveOutcome
+    ensures { λ o. ⌜ (o .refusal ≡ 100) × (o .cells ≡ noCells) ⌝ }
+{
+    let cells = [
+        0,
+        0,
+        0,
+        0,
+        0,
+        0,
+        0,
+        0,
+        0,
+        0,
+        0,
+        0,
+        0,
+        0,
+        0,
+        0,
+        0,
+        0,
+        0,
+        0,
+        0,
+        0,
+        0,
+        0,
+        0,
+        0,
+        0,
+        0,
+        0,
+        0,
+        0,
+        0,
+        0,
+        0,
+        0,
+        0,
+        0,
+    ];
+    ResolveOutcome {
+        refusal: 100,
+        cells,
+    }
+}
+
+pub fn resolve(
+    r: DeviceRecord,
+    columns: &[u32],
+    offsets: &[usize],
+    lengths: &[usize],
+) -> ResolveOutcome
+    ensures { λ o. ⌜ (o .refusal ≡ number (resolveCall r (record { columns = now (columns .entry); offsets = now (offsets .entry); lengths = now (lengths .entry) })))
+        × (o .cells ≡ valuesOr noCells (resolveCall r (record { columns = now (columns .entry); offsets = now (offsets .entry); lengths = now (lengths .entry) }))) ⌝ }
+{
+    if !from_record::good_tags(r) {
+        return unknown_tag();
+    }
+    let d = from_record::device_from(r);
+    let a = resolve::resolve(d, columns, offsets, lengths);
+    let cells = a.cells;
+    ResolveOutcome {
+        refusal: record::wide(a.row),
+        cells,
+    }
+}
+
+// A load by cells; `transient` is 0 or 1. Answers the number of the refusal, 0 where both slices were loaded.
+pub fn load_resolved(
+    r: DeviceRecord,
+    transient: u64,
+    alpha: f64,
+    cells: &[usize; 37],
+    rhs: &mut [f64],
+    values: &mut [f64],
+) -> u64
+    ensures { λ o. ⌜ (o ≡ loadResolvedCall r transient alpha (now (cells .entry)) (now (rhs .entry)) (now (values .entry)))
+        × ((now (rhs .exit) ≡ resolvedSide r transient alpha (now (cells .entry)) (now (rhs .entry)) (now (values .entry)))
+        × (now (values .exit) ≡ resolvedMatrix r transient alpha (now (cells .entry)) (now (rhs .entry)) (now (values .entry)))) ⌝ }
+{
+    if !from_record::good_tags(r) {
+        return 100;
+    }
+    if 1 < transient {
+        return 100;
+    }
+    let d = from_record::device_from(r);
+    let kind = record_loading::kind_from(transient, alpha);
+    let a = load_resolved::load_resolved(d, kind, cells, rhs, values);
+    record_loading::load_number(a)
+}
