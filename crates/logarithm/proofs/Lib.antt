@@ -11,5 +11,6 @@ pub mod Enclosed
 pub mod BelowOne
 pub mod RoundedLog
 pub mod Accuracy
+pub mod OnePlus
 pub mod Sizes
 pub mod SpecialCases

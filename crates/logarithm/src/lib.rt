@@ -163,12 +163,17 @@ pub fn ln(x: f64) -> f64
     0.0 / 0.0
 }
 
-// ln(1 + a) for a finite and not negative; NaN otherwise.
+// ln(1 + a) for a finite and not negative; NaN otherwise. 1 + a is not below 1, so its logarithm needs no test of the sign, and no Log.
 pub fn ln_1p(a: f64) -> f64
     ensures { λ r. ⌜ r ≡ ln1pOf a ⌝ }
 {
     if a >= 0.0 {
-        return ln(1.0 + a);
+        let b = 1.0 + a;
+        if b < 1.0 / 0.0 {
+            let bits = f64::to_bits(b);
+            let m = ((bits & 0xf_ffff_ffff_ffff) + 0x10_0000_0000_0000) * 1024;
+            return rounded(log_above(m, (bits >> 52) - 1023));
+        }
     }
     0.0 / 0.0
 }
