@@ -98,7 +98,7 @@ is-logarithm {x} {y} s = record {
 first : (m u d : ℕ) → 0 < m → 0 < u → 0 * 1 * d < m * u * 1
 first m u d h k = omega (arith, mul-pos h k)
 
-above-zero : (x : Float) → T (le leastNormal x) → lt +0 x ≡ true
+pub above-zero : (x : Float) → T (le leastNormal x) → lt +0 x ≡ true
 unfolding lt le eq ofBits
 above-zero x h = of x (above-of-le leastNormal x tt h)
   where
@@ -123,11 +123,11 @@ pub one-finite : T (finite +1)
 unfolding ofBits
 one-finite = tt
 
-one-fits : T (fits binary64 +1)
+pub one-fits : T (fits binary64 +1)
 unfolding ofBits fits
 one-fits = tt
 
-least-finite : T (finite leastNormal)
+pub least-finite : T (finite leastNormal)
 unfolding ofBits
 least-finite = tt
 

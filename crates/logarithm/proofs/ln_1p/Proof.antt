@@ -5,9 +5,7 @@ use Prim.Native.Nat.{ℕ, _+_, _-_, _*_, _/_, _^_, _≤_, _<_}
 use native.Mathlib.Omega.{arith}
 use borrow.Author.Needs.{needs}
 use lib.Dec.{T}
-use lib.Bits.{and-mask, mask-lt}
 use lib.Ieee.{binary64, fits, ofBits, toBits, div}
-use mir.Facts.{fits-bits}
 use Rattle.exact.specs.Float64.{_⊕_, +1}
 use Rattle.exponential.proofs.Ranges.{cond-else}
 use Rattle.logarithm.specs.FixedPoint.{lnMantOf, twosOf}
@@ -23,34 +21,24 @@ float-to-bits-bits : tie.Need-float-to-bits-bits
 unfolding div ofBits
 float-to-bits-bits c = let s = c .before .before in no-nan (s .args .a) (held s) (c .before .if1 .taken) (c .if2 .taken)
 
-add-m : tie.Need-add-m
-add-m c = fits-bits 64 tt (sum _ (mask-lt (toBits binary64 (+1 ⊕ c .before .before .args .a)) 52))
-  where
-    sum : (x : ℕ) → x < 2 ^ 52 → x + 2 ^ 52 < 2 ^ 64
-    sum x h = omega arith
-
-mul-m : tie.Need-mul-m
-mul-m c = fits-bits 64 tt (product _ (mask-lt (toBits binary64 (+1 ⊕ c .before .before .args .a)) 52))
-  where
-    product : (x : ℕ) → x < 2 ^ 52 → (x + 2 ^ 52) * 1024 < 2 ^ 64
-    product x h = omega arith
+digits-requires : tie.Need-digits-requires
+digits-requires c κs = search needs
 
 sub-log-above : tie.Need-sub-log-above
 unfolding div ofBits
-sub-log-above c = let s = c .before .before in field-from (s .args .a) (held s) (c .before .if1 .taken) (c .if2 .taken)
+sub-log-above c =
+    let t = c .before in
+    let s = t .before .before in
+    field-from (s .args .a) (held s) (t .before .if1 .taken) (t .if2 .taken)
 
 log-above-requires : tie.Need-log-above-requires
 unfolding div ofBits
 log-above-requires c κs =
-    let s = c .before .before in
-    (from _, digits _ (mask-lt (toBits binary64 (+1 ⊕ s .args .a)) 52), field _ (bits-range (s .args .a) (held s) (c .before .if1 .taken) (c .if2 .taken) .1))
+    let d = c .digits .ensures in
+    let t = c .before in
+    let s = t .before .before in
+    (d .1, d .2, field _ (bits-range (s .args .a) (held s) (t .before .if1 .taken) (t .if2 .taken) .1))
   where
-    from : (x : ℕ) → 2 ^ 62 ≤ (x + 2 ^ 52) * 1024
-    from x = omega arith
-
-    digits : (x : ℕ) → x < 2 ^ 52 → (x + 2 ^ 52) * 1024 < 2 ^ 63
-    digits x h = omega arith
-
     field : (b : ℕ) → b < 2047 * 2 ^ 52 → b / 2 ^ 52 - 1023 ≤ 1100
     field b h = omega arith
 
@@ -60,11 +48,12 @@ rounded-requires c κs = search needs
 returns : tie.Need-returns
 unfolding div ofBits
 returns c =
-    let d = c .before .before in
+    let g = c .before .before in
+    let d = g .before in
     let s = d .before .before in
     let b = toBits binary64 (+1 ⊕ s .args .a) in
     c .rounded .ensures
-    ∙ ap roundedOf (c .before .log-above .ensures ∙ ap (λ (x : ℕ). twosOf (b / 2 ^ 52 - 1023) + lnMantOf ((x + 2 ^ 52) * 1024) / 2048) (and-mask b 52))
+    ∙ ap roundedOf (c .before .log-above .ensures ∙ ap (λ (m : ℕ). twosOf (b / 2 ^ 52 - 1023) + lnMantOf m / 2048) (g .digits .ensures .0))
     ∙ ln-1p-by-bits (s .args .a) (held s) (d .before .if1 .taken) (d .if2 .taken)
 
 returns-2 : tie.Need-returns-2
@@ -74,4 +63,4 @@ returns-2 c =
     ⊎-elim (λ w. no-log a (w .0 .taken) (w .1 .left)) (λ w. cond-else _ _ _ _ (w .left) refl) (c .if1 .came)
 
 pub ln-1p-spec : {M : Type 1} → statement M
-ln-1p-spec = tie.close (tie.spec float-to-bits-bits add-m mul-m sub-log-above log-above-requires rounded-requires returns returns-2)
+ln-1p-spec = tie.close (tie.spec float-to-bits-bits digits-requires sub-log-above log-above-requires rounded-requires returns returns-2)
