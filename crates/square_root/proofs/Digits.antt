@@ -79,7 +79,7 @@ halved b d e m k p f g =
     })
 
 -- a normal number: of the digits at the top of a word one is taken off where the exponent is odd
-pub halved-normal : (b : ℕ) → 2 ^ 52 ≤ b → b < 2047 * 2 ^ 52 → Halved b (((b % 2 ^ 52 + 2 ^ 52) * 2 ^ 11) % 2 ^ 64 / 2 ^ (b / 2 ^ 52 % 2)) (b / 2 ^ 53 + 510 + b / 2 ^ 52 % 2)
+pub halved-normal : (b : ℕ) → 2 ^ 52 ≤ b → b < 2047 * 2 ^ 52 → Halved b (((b % 2 ^ 52 + 2 ^ 52) * 2 ^ 11) % 2 ^ 64 / 2 ^ (b / 2 ^ 52 % 2)) ((b / 2 ^ 52 + 1021) / 2)
 halved-normal b h k = halved b _ _ _ _ (parts-normal b h k) (digits (b % 2 ^ 52 + 2 ^ 52) (b / 2 ^ 52) (omega arith)) (omega arith)
   where
     at : (d t u : ℕ) → d < 2 ^ 53 → t < 2 → u + t ≡ 1 → d * 2 ^ (10 + u) ≡ (d * 2 ^ 11) % 2 ^ 64 / 2 ^ t

@@ -350,7 +350,7 @@ fn positive_root(bits: u64) -> u64
 {
     let odd = (bits >> 52) % 2;
     let mut m = (((bits & 0xf_ffff_ffff_ffff) + 0x10_0000_0000_0000) << 11) >> odd;
-    let mut e = (bits >> 53) + 510 + odd;
+    let mut e = ((bits >> 52) + 1021) / 2;
     let mut j = bits >> 45;
     if bits < 0x10_0000_0000_0000 {
         let z = u64::leading_zeros(bits) as u64;

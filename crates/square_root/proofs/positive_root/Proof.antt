@@ -32,9 +32,6 @@ shr-m c = search needs
 add-e : tie.Need-add-e
 add-e c = search needs
 
-add-e-2 : tie.Need-add-e-2
-add-e-2 c = search needs
-
 cast-z : tie.Need-cast-z
 cast-z c = fits-le (leading-le 64 (c .before .args .bits)) (fits-lit tt)
 
@@ -98,4 +95,4 @@ returns c =
     (ap (ofBits binary64) (r .0) ∙ root-pattern _ (digits (c .before) .is) (λ i. nearestRoot (c .before .if1 .m * 2 ^ 42)) ∙ sym (root-of-pattern (d .args .bits) (d .pre .0) (d .pre .1)), r .1)
 
 pub positive-root-spec : {M : Type 1} → statement M
-positive-root-spec = tie.close (tie.spec add-m shr-m add-e add-e-2 cast-z sub-f sub-m add-m-2 shl-m sub-e add-j shr-j sub-j mul-j add-j-2 scaled-root-requires returns)
+positive-root-spec = tie.close (tie.spec add-m shr-m add-e cast-z sub-f sub-m add-m-2 shl-m sub-e add-j shr-j sub-j mul-j add-j-2 scaled-root-requires returns)
