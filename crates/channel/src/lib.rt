@@ -56,21 +56,23 @@ fn saturation(beta: f64, vdsat: f64, vds: f64, lambda: f64, slope: f64) -> Chann
     }
 }
 
+// The tests are those of `region_at`, written out: a Region would be made only to be taken apart.
 pub fn shichman_hodges(beta: f64, vgs: f64, vds: f64, vth: f64, lambda: f64, slope: f64) -> Channel
     ensures { λ r. ⌜ r ≡ shichmanHodgesOf beta vgs vds vth lambda slope ⌝ }
 {
     let vdsat = vgs - vth;
-    let at = region_at(vgs, vth, vds, vdsat);
-    match at {
-        Region::Cutoff => Channel {
+    if vth > vgs {
+        return Channel {
             ids: 0.0,
             gm: 0.0,
             gds: 0.0,
             gmbs: 0.0,
-        },
-        Region::Triode => triode(beta, vdsat, vds, lambda, slope),
-        Region::Saturation => saturation(beta, vdsat, vds, lambda, slope),
+        };
     }
+    if vdsat > vds {
+        return triode(beta, vdsat, vds, lambda, slope);
+    }
+    saturation(beta, vdsat, vds, lambda, slope)
 }
 
 // What is left of the current when the conductances' shares are taken off, in real (not flipped) terms.

@@ -14,4 +14,5 @@ pub mod Ranges
 pub mod Cutting
 pub mod WholeDigits
 pub mod Accuracy
+pub mod BySize
 pub mod Sizes

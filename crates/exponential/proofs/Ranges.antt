@@ -11,7 +11,6 @@ use lib.Ieee.Positive.{positive, cross→le}
 use lib.Ieee.Positive as ieee-positive
 use Rattle.exact.specs.Float64.{+0}
 use Rattle.exact.proofs.Tests.{holds, fails}
-use Rattle.exponential.specs.Exponential.{greatest}
 
 pub cond-yes : {X : Type 0} (b : Bool) (x y : X) → b ≡ true → x ≡ cond b x y
 cond-yes b x y e = ap (λ (t : Bool). cond t x y) (sym e)
@@ -57,11 +56,3 @@ module _ (n : ℕ) (k : ℤ) (g : T (positive (fin false n k))) where
       none' : (u d : ℕ) → 0 * u * 1 + 0 * 1 * d ≡ 0
       none' u d = omega arith
   to-zero (fin true (suc m) d) e f = not-above (fin false (suc m) d) (lt→ltb 0 (suc m) (zero-lt-suc m)) f
-
-pub above : (x : Float) → lt +0 x ≡ true → lt greatest x ≡ false → T (positive x) × T (le x greatest)
-unfolding ofBits
-above = from-zero _ _ tt
-
-pub below : (x : Float) → lt x +0 ≡ true → lt x (neg greatest) ≡ false → T (positive (neg x)) × T (le (neg x) greatest)
-unfolding ofBits
-below = to-zero _ _ tt

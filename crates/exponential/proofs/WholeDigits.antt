@@ -73,15 +73,18 @@ with-lead : (t : ℕ) → t < 2 ^ 52 → t + 2 ^ 52 < 2 ^ 53
 with-lead t h = omega arith
 
 -- a small exponent is a small number
-units-lt : (b : ℕ) → b / 2 ^ 52 < 970 → unitsOf b < 2 ^ 1021
-units-lt b h = either (decLe (2 ^ 52) b)
+pub units-lt : (b n : ℕ) → 1 ≤ n → b / 2 ^ 52 < n → unitsOf b < 2 ^ (51 + n)
+units-lt b n k h = either (decLe (2 ^ 52) b)
   where
-    few : (b : ℕ) → 2 ^ 52 ≤ b → b / 2 ^ 52 < 970 → 53 + (b / 2 ^ 52 - 1) ≤ 1021
+    few : (b : ℕ) → 2 ^ 52 ≤ b → b / 2 ^ 52 < n → 53 + (b / 2 ^ 52 - 1) ≤ 51 + n
     few b g h = omega arith
 
-    either : Dec (2 ^ 52 ≤ b) → unitsOf b < 2 ^ 1021
+    some : (n : ℕ) → 1 ≤ n → 52 ≤ 51 + n
+    some n h = omega arith
+
+    either : Dec (2 ^ 52 ≤ b) → unitsOf b < 2 ^ (51 + n)
     either (yes g) = lt-of-le-of-lt (le-of-eq (units-large b g)) (lt-of-lt-of-le (shl-lt 53 (b / 2 ^ 52 - 1) (with-lead (b % 2 ^ 52) (mod-lt b (pow-pos 52)))) (pow-mono (few b g h)))
-    either (no f) = lt-of-le-of-lt (le-of-eq (units-small b (lt-of-not-le f))) (lt-of-lt-of-le (lt-of-not-le f) (lit≤ {m = 2 ^ 52} {n = 2 ^ 1021} tt))
+    either (no f) = lt-of-le-of-lt (le-of-eq (units-small b (lt-of-not-le f))) (lt-of-lt-of-le (lt-of-not-le f) (pow-mono (some n k)))
 
 -- a large one is a large number
 units-ge : (b : ℕ) → 1033 ≤ b / 2 ^ 52 → 2 ^ 1084 ≤ unitsOf b
@@ -133,7 +136,7 @@ module _ (x : Float) (f : T (fits binary64 x)) (p : T (positive x)) (q : T (le x
 
         either : Dec (970 ≤ e) → 970 ≤ e
         either (yes h) = h
-        either (no g) = absurd (not-le-of-lt (units-lt b (lt-of-not-le g)) some)
+        either (no g) = absurd (not-le-of-lt (units-lt b 970 (lit≤ tt) (lt-of-not-le g)) some)
 
     pub by-digits : (b % 2 ^ 52 + 2 ^ 52) * 2048 / 2 ^ (1033 - e) ≡ fixedOf x
     by-digits =

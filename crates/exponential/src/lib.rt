@@ -4,9 +4,8 @@ ghost use Prim.Native.Nat.{_+_, _*_, _/_, _%_, _^_, _≤_, _<_};
 ghost use lib.ListN.{getD};
 ghost use lib.Dec.{T};
 ghost use lib.Ieee.{binary64, ofBits, le};
-ghost use lib.Ieee.Positive.{positive};
 ghost use Rattle.exponential.specs.Mantissa.{expTable, mantOf};
-ghost use Rattle.exponential.specs.Exponential.{patternOf, expFixed, fixedOf, expAbove, expOf, least, greatest};
+ghost use Rattle.exponential.specs.Exponential.{patternOf, expFixed, fixedOf, expOf, least, greatest};
 use std::num::wrapping_sub_u64;
 use wide::mulhi;
 use wide::mullo;
@@ -229,17 +228,6 @@ pub fn whole_part(x: f64) -> u64
     (((bits & 0xf_ffff_ffff_ffff) + 0x10_0000_0000_0000) * 2048) >> (1033 - (bits >> 52))
 }
 
-// The whole part of x * 2^53.
-fn fixed(x: f64) -> u64
-    requires { ⌜ T (positive x) × T (le x greatest) ⌝ }
-    ensures { λ r. ⌜ r ≡ fixedOf x ⌝ }
-{
-    if x >= 0.00000000000000011102230246251565 {
-        return whole_part(x);
-    }
-    0
-}
-
 // m * 2^(k - 62), cut to 53 digits. Where m is 2^63 or a little more, its digits are 2^53, which carries into the exponent.
 fn assembled(m: u64, k: u64) -> f64
     requires { ⌜ (2 ^ 62 ≤ m) × (m < 2 ^ 63 + 2 ^ 10) × (k ≤ 1010) ⌝ }
@@ -258,31 +246,26 @@ pub fn exp_fixed(x: u64) -> f64
     assembled(mant(r), k)
 }
 
-// e^x, for x above 0 and up to 700.
-fn exp_above(x: f64) -> f64
-    requires { ⌜ T (positive x) × T (le x greatest) ⌝ }
-    ensures { λ r. ⌜ r ≡ expAbove x ⌝ }
-{
-    exp_fixed(fixed(x))
-}
+// 2^-53, the unit of the fixed point: a number of a smaller size has no whole part in it, and e^0 is 1.
+const UNIT: f64 = 0.00000000000000011102230246251565;
 
-// e^x: +infinity above 700, 0 below -700, 1 at both zeros, NaN at NaN.
+// e^x: +infinity above 700, 0 below -700, 1 near zero, NaN at NaN. The sign and the nearness to zero are one test: a number within the range meets two tests or three in all.
 pub fn exp(x: f64) -> f64
     ensures { λ r. ⌜ r ≡ expOf x ⌝ }
 {
-    if x > 700.0 {
-        return 1.0 / 0.0;
+    if x <= -UNIT {
+        if x < -700.0 {
+            return 0.0;
+        }
+        return 1.0 / exp_fixed(whole_part(-x));
     }
-    if x < -700.0 {
-        return 0.0;
+    if x >= UNIT {
+        if x > 700.0 {
+            return 1.0 / 0.0;
+        }
+        return exp_fixed(whole_part(x));
     }
-    if x > 0.0 {
-        return exp_above(x);
-    }
-    if x < 0.0 {
-        return 1.0 / exp_above(-x);
-    }
-    if x == 0.0 {
+    if x == x {
         return 1.0;
     }
     0.0 / 0.0

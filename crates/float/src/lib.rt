@@ -8,10 +8,9 @@ pub fn abs(x: f64) -> f64
     if x < 0.0 {
         return -x;
     }
+    // both zeros
     if x == 0.0 {
-        if 1.0 / x < 0.0 {
-            return -x;
-        }
+        return 0.0;
     }
     x
 }
@@ -34,14 +33,15 @@ pub fn signum(x: f64) -> f64
     1.0
 }
 
+// In the model y is a constant at each call, and the compiler drops the test of y.
 pub fn max(x: f64, y: f64) -> f64
     ensures { λ r. ⌜ r ≡ maximum x y ⌝ }
 {
-    if x < y {
-        return y;
+    if x >= y {
+        return x;
     }
-    if x != x {
-        return y;
+    if y != y {
+        return x;
     }
-    x
+    y
 }

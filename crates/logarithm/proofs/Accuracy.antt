@@ -98,7 +98,7 @@ is-logarithm {x} {y} s = record {
 first : (m u d : ℕ) → 0 < m → 0 < u → 0 * 1 * d < m * u * 1
 first m u d h k = omega (arith, mul-pos h k)
 
-above-zero : (x : Float) → T (le leastNormal x) → lt +0 x ≡ true
+pub above-zero : (x : Float) → T (le leastNormal x) → lt +0 x ≡ true
 unfolding lt le eq ofBits
 above-zero x h = of x (above-of-le leastNormal x tt h)
   where
@@ -123,11 +123,11 @@ pub one-finite : T (finite +1)
 unfolding ofBits
 one-finite = tt
 
-one-fits : T (fits binary64 +1)
+pub one-fits : T (fits binary64 +1)
 unfolding ofBits fits
 one-fits = tt
 
-least-finite : T (finite leastNormal)
+pub least-finite : T (finite leastNormal)
 unfolding ofBits
 least-finite = tt
 
@@ -290,13 +290,13 @@ module _ (a : Float) (f : T (fits binary64 a)) (t : T (finite a)) (h : T (+0 ≤
   sum-nonneg : nat 0 ≤q value +1 +q value a
   sum-nonneg = linq (value +1 ∷ value a ∷ []) ((## 0 ⊑ qv 1 by 1) ∷ (## 1 ⊑ qv 0 by 1) ∷ []) 0 (## 0) (qv 0 ⊞ qv 1) tt a-nonneg (≤-of-≈ (≈-sym one-value))
 
-  x-finite : T (finite x)
-  x-finite =
+  pub sum-finite : T (finite x)
+  sum-finite =
       finite-next x (value +1 +q value a) (add-rounded binary64 +1 a one-finite t) sum-nonneg
       (≤-trans (linq (value +1 ∷ value a ∷ nat top ∷ []) ((qv 1 ⊑ qv 2 by 1) ∷ (qv 0 ⊑ ## 1 by 1) ∷ []) 0 (qv 0 ⊞ qv 1) (qv 2 ⊞ ## 1) tt (at-most-top a f t) (≤-of-≈ one-value)) (≤-of-≈ (≈-sym (nat-+ top 1))))
 
   x-near : Within (value x) (value +1 +q value a) (eps binary64 *q absq (value +1 +q value a))
-  x-near = add-near binary64 +1 a one-finite t one-fits f x-finite
+  x-near = add-near binary64 +1 a one-finite t one-fits f sum-finite
 
   abbrev z : ℚ
   z = nat 1 +q value a
@@ -322,16 +322,16 @@ module _ (a : Float) (f : T (fits binary64 a)) (t : T (finite a)) (h : T (+0 ≤
   x-half : 1 // 2 ≤q value x
   x-half = linq (value x ∷ z ∷ []) ((qv 1 ⊠ (## 1 ⊟ 1 ÷ (2 ^ 53)) ⊑ qv 0 by 18014398509481984) ∷ (## 1 ⊑ qv 1 by 18014398509481982) ∷ []) 18014398509481983 (1 ÷ 2) (qv 0) tt x-low z-one
 
-  x-normal : T (leastNormal ≤f x)
-  x-normal = by-test (lt leastNormal x) refl
+  pub sum-normal : T (leastNormal ≤f x)
+  sum-normal = by-test (lt leastNormal x) refl
     where
       by-test : (s : Bool) → lt leastNormal x ≡ s → T (leastNormal ≤f x)
       by-test true e = or-left leastNormal x (subst T (sym e) tt)
-      by-test false e = absurd (contrary (≤-trans x-half (≤-trans (nlt→≤ leastNormal x least-finite x-finite (subst (λ (b : Bool). T (not b)) (sym e) tt)) least-small)))
+      by-test false e = absurd (contrary (≤-trans x-half (≤-trans (nlt→≤ leastNormal x least-finite sum-finite (subst (λ (b : Bool). T (not b)) (sym e) tt)) least-small)))
 
   pub ln-1p-stands : Stands (value x) (ln1pOf a)
   unfolding ln1pOf
-  ln-1p-stands = subst (λ (y : Float). Stands (value x) y) (ap (λ (b : Bool). cond b (lnOf x) nan) (sym (is-true (+0 ≤f a) h))) (ln-stands x (add-fits binary64 +1 a) x-normal (finite-below x x-finite))
+  ln-1p-stands = subst (λ (y : Float). Stands (value x) y) (ap (λ (b : Bool). cond b (lnOf x) nan) (sym (is-true (+0 ≤f a) h))) (ln-stands x (add-fits binary64 +1 a) sum-normal (finite-below x sum-finite))
 
   -- ---- the logarithm's size
   x-top : value x ≤q nat (2 ^ 1025)

@@ -54,7 +54,7 @@ is-below Undefined = false
 is-below BaseZero = false
 is-below BaseOne = false
 
-finite-between : (x : Float) → lt +0 x ≡ true → lt x (inf false) ≡ true → T (finite x)
+pub finite-between : (x : Float) → lt +0 x ≡ true → lt x (inf false) ≡ true → T (finite x)
 unfolding lt ofBits
 finite-between nan p q = clash (sym p)
 finite-between (inf true) p q = clash (sym p)

@@ -11,5 +11,7 @@ pub mod Enclosed
 pub mod BelowOne
 pub mod RoundedLog
 pub mod Accuracy
+pub mod ByBits
+pub mod OnePlus
 pub mod Sizes
 pub mod SpecialCases

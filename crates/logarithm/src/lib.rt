@@ -8,7 +8,7 @@ ghost use Rattle.exact.specs.Float64.{_<f_, +1};
 ghost use Rattle.logarithm.specs.LnTable.{lnTable, inverseOf};
 ghost use Rattle.logarithm.specs.FixedPoint.{nearOne, limit, lnMantOf, twosOf};
 ghost use Rattle.logarithm.specs.declared.Log.the-variants.{Above, Below};
-ghost use Rattle.logarithm.specs.Logarithm.{logBits, logOf, logSizeOf, roundedOf, lnFrom, lnOf, ln1pOf};
+ghost use Rattle.logarithm.specs.Logarithm.{logBits, logOf, logSizeOf, roundedOf, lnOf, ln1pOf};
 use wide::mulhi;
 
 // ln(1 + z), z and the result in units of 2^-64. The first three products do not wait for one another.
@@ -70,6 +70,13 @@ fn log_below(m: u64, n: u64) -> u64
     twos(n) - ln_mant(m) / 2048
 }
 
+// The digits of the normal number whose pattern is bits, the first of them before the point, in units of 2^-62.
+fn digits(bits: u64) -> u64
+    ensures { λ m. ⌜ (m ≡ (bits % 2 ^ 52 + 2 ^ 52) * 1024) × (2 ^ 62 ≤ m) × (m < 2 ^ 63) ⌝ }
+{
+    ((bits & 0xf_ffff_ffff_ffff) + 0x10_0000_0000_0000) * 1024
+}
+
 // The size of the logarithm of the positive finite number whose pattern is bits. The functions below answer a number, not a Log, which would go through memory.
 fn size_of_bits(bits: u64) -> u64
     requires { ⌜ (0 < bits) × (bits < 2047 * 2 ^ 52) ⌝ }
@@ -79,7 +86,7 @@ fn size_of_bits(bits: u64) -> u64
         let z = u64::leading_zeros(bits) as u64;
         return log_below(bits << (z - 1), 1011 + z);
     }
-    let m = ((bits & 0xf_ffff_ffff_ffff) + 0x10_0000_0000_0000) * 1024;
+    let m = digits(bits);
     let field = bits >> 52;
     if field < 1023 {
         return log_below(m, 1023 - field);
@@ -140,35 +147,33 @@ fn rounded(v: u64) -> f64
     std::num::nearest_u64_to_f64(v) * 0.00000000000000011102230246251565
 }
 
-// The natural logarithm as a float; NaN where there is none.
-fn ln_from(l: Log) -> f64
-    ensures { λ r. ⌜ r ≡ lnFrom l ⌝ }
-{
-    match l {
-        Log::Undefined => 0.0 / 0.0,
-        Log::BaseZero => 0.0 / 0.0,
-        Log::BaseOne => 0.0,
-        Log::Above(v) => rounded(v),
-        Log::Below(v) => -rounded(v),
-    }
-}
-
-// The natural logarithm of a positive normal number; NaN otherwise.
+// The natural logarithm of a positive normal number; NaN otherwise. A number is below 1 where its exponent's field is below 1023; at 1 the logarithm is 0 without a test.
 pub fn ln(x: f64) -> f64
     ensures { λ r. ⌜ r ≡ lnOf x ⌝ }
 {
     if x >= 2.2250738585072014e-308 {
-        return ln_from(log_of(x));
+        if x < 1.0 / 0.0 {
+            let bits = f64::to_bits(x);
+            let field = bits >> 52;
+            if field < 1023 {
+                return -rounded(log_below(digits(bits), 1023 - field));
+            }
+            return rounded(log_above(digits(bits), field - 1023));
+        }
     }
     0.0 / 0.0
 }
 
-// ln(1 + a) for a finite and not negative; NaN otherwise.
+// ln(1 + a) for a finite and not negative; NaN otherwise. 1 + a is not below 1, so its logarithm needs no test of the sign, and no Log.
 pub fn ln_1p(a: f64) -> f64
     ensures { λ r. ⌜ r ≡ ln1pOf a ⌝ }
 {
     if a >= 0.0 {
-        return ln(1.0 + a);
+        let b = 1.0 + a;
+        if b < 1.0 / 0.0 {
+            let bits = f64::to_bits(b);
+            return rounded(log_above(digits(bits), (bits >> 52) - 1023));
+        }
     }
     0.0 / 0.0
 }

@@ -1,5 +1,5 @@
 -- The digits and the exponent of a positive finite number, from its pattern: it is d * 2 ^ e / 2 ^ 2148 with a d of 53 digits, and its root is `rootOf` that.
-use mathlib.Core.Path.{_≡_, sym, ap, _∙_, subst}
+use mathlib.Core.Path.{_≡_, sym, ap, _∙_, subst, transport}
 use mathlib.Core.Bool.{true, false}
 use Prim.Native.Nat.{ℕ, zero, suc, _+_, _-_, _*_, _/_, _%_, _^_, _≤_, _<_}
 use native.Mathlib.Nat.{lt-of-not-le, mul-assoc, mul-right-comm, mul-div-cancel, mul-pos}
@@ -14,7 +14,7 @@ use lib.Ieee.Exact.{HasValue}
 use Rattle.exact.proofs.PositivePatterns.{unitsOf, units-small, units-large, units-of-pattern}
 use Rattle.exact.proofs.LeadingDigits.{Lead, lead}
 use Rattle.square_root.specs.SquareRoot.{rootOf, sqrtOf}
-use Rattle.square_root.proofs.RootDigits.{Scaled, scaled}
+use Rattle.square_root.proofs.RootDigits.{Scaled, scaled, moved, large, shifted}
 
 -- ---- brought to 53 digits
 pub subnormal : (b z : ℕ) → b < 2 ^ 52 → Lead 11 b z → (b * 2 ^ (z - 11)) % 2 ^ 64 * 2 ^ (1085 - z) ≡ unitsOf b * 2 ^ 1074
@@ -64,6 +64,51 @@ parts-subnormal b h k =
 
 pub parts-normal : (b : ℕ) → 2 ^ 52 ≤ b → b < 2047 * 2 ^ 52 → Parts b (b % 2 ^ 52 + 2 ^ 52) (1073 + b / 2 ^ 52)
 parts-normal b h k = record { low = omega arith; high = omega arith; from = omega arith; to = omega arith; is = normal b h }
+
+-- the number of the pattern b is m * 2 ^ 42 * 4 ^ k / 2 ^ 2148, and m has 63 or 64 digits
+pub record Halved (b m k : ℕ) : Type 0 where
+  pub low : 2 ^ 62 ≤ m
+  pub is : Scaled (unitsOf b * 2 ^ 1074) (m * 2 ^ 42) k
+
+pub halved : (b d e m k : ℕ) → Parts b d e → d * 2 ^ (10 + e % 2) ≡ m → (e - 52) / 2 ≡ k → Halved b m k
+halved b d e m k p f g =
+    let n = sym (moved d (p .low) (p .high) (e % 2)) in
+    transport (λ i. Halved b (f i) (g i)) (record {
+      low = large d (p .low) (p .high) (e % 2) (omega arith);
+      is = transport (λ i. Scaled (p .is i) (n i) ((e - 52) / 2)) (scaled d (p .low) (p .high) e (p .from) (p .to));
+    })
+
+-- a normal number: of the digits at the top of a word one is taken off where the exponent is odd
+pub halved-normal : (b : ℕ) → 2 ^ 52 ≤ b → b < 2047 * 2 ^ 52 → Halved b (((b % 2 ^ 52 + 2 ^ 52) * 2 ^ 11) % 2 ^ 64 / 2 ^ (b / 2 ^ 52 % 2)) ((b / 2 ^ 52 + 1021) / 2)
+halved-normal b h k = halved b _ _ _ _ (parts-normal b h k) (digits (b % 2 ^ 52 + 2 ^ 52) (b / 2 ^ 52) (omega arith)) (omega arith)
+  where
+    at : (d t u : ℕ) → d < 2 ^ 53 → t < 2 → u + t ≡ 1 → d * 2 ^ (10 + u) ≡ (d * 2 ^ 11) % 2 ^ 64 / 2 ^ t
+    at d zero u h k e = subst (λ (u : ℕ). d * 2 ^ (10 + u) ≡ (d * 2 ^ 11) % 2 ^ 64 / 2 ^ 0) (last u e) (omega arith)
+      where
+        last : (u : ℕ) → u + 0 ≡ 1 → 1 ≡ u
+        last u e = omega arith
+    at d (suc zero) u h k e = subst (λ (u : ℕ). d * 2 ^ (10 + u) ≡ (d * 2 ^ 11) % 2 ^ 64 / 2 ^ 1) (last u e) (omega arith)
+      where
+        last : (u : ℕ) → u + 1 ≡ 1 → 0 ≡ u
+        last u e = omega arith
+    at d (suc (suc t)) u h k e = omega arith
+
+    digits : (d x : ℕ) → d < 2 ^ 53 → d * 2 ^ (10 + (1073 + x) % 2) ≡ (d * 2 ^ 11) % 2 ^ 64 / 2 ^ (x % 2)
+    digits d x h = at d (x % 2) ((1073 + x) % 2) h (omega arith) (omega arith)
+
+pub halved-subnormal : (b : ℕ) → 0 < b → b < 2 ^ 52 → Halved b ((b * 2 ^ (leadingZeros 64 b - 1 + (1085 - leadingZeros 64 b) % 2)) % 2 ^ 64) ((1085 - leadingZeros 64 b - 52) / 2)
+halved-subnormal b h k =
+    let l = lead 11 tt b h k in
+    let z = leadingZeros 64 b in
+    let t = (1085 - z) % 2 in
+    let p = parts-subnormal b h k in
+    halved b _ _ _ _ p
+    (sym (shifted _ (p .low) (p .high) t (omega arith))
+    ∙ ap (λ (n : ℕ). n % 2 ^ 64) (ap (λ (n : ℕ). n * 2 ^ (10 + t)) (l .same) ∙ mul-assoc b (2 ^ (z - 11)) (2 ^ (10 + t)) ∙ ap (λ (n : ℕ). b * n) (sym (pow-add 2 (z - 11) (10 + t)) ∙ ap (λ (i : ℕ). 2 ^ i) (sum z t (l .low)))))
+    (λ i. (1085 - z - 52) / 2)
+  where
+    sum : (z t : ℕ) → 12 ≤ z → z - 11 + (10 + t) ≡ z - 1 + t
+    sum z t h = omega arith
 
 -- ---- the root by the units
 same : (n d u : ℕ) → 0 < d → n * 2 ^ 1074 ≡ u * d → n * 2 ^ 2148 / d ≡ u * 2 ^ 1074

@@ -82,35 +82,23 @@ module _ (d : ℕ) (lo : 2 ^ 52 ≤ d) (hi : d < 2 ^ 53) where
   in-range (suc zero) h = omega arith
   in-range (suc (suc t)) h = omega arith
 
-  -- m = d << (10 + t) has 63 or 64 digits, and m << 42 is d << (52 + t)
+  -- m = d << (10 + t) has 63 or 64 digits
   pub shifted : (t : ℕ) → t < 2 → (d * 2 ^ (10 + t)) % 2 ^ 64 ≡ d * 2 ^ (10 + t)
   shifted zero h = omega arith
   shifted (suc zero) h = omega arith
   shifted (suc (suc t)) h = omega arith
 
-  shifted-range : (t : ℕ) → t < 2 → (2 ^ 62 ≤ d * 2 ^ (10 + t)) × (d * 2 ^ (10 + t) < 2 ^ 64)
-  shifted-range zero h = omega arith
-  shifted-range (suc zero) h = omega arith
-  shifted-range (suc (suc t)) h = omega arith
-
-  -- the two words of m << 42
-  pub words : (t : ℕ) → t < 2 → d * 2 ^ (10 + t) / 2 ^ 22 * 2 ^ 64 + (d * 2 ^ (10 + t) * 2 ^ 42) % 2 ^ 64 ≡ d * 2 ^ (52 + t)
-  words t h = split (d * 2 ^ (10 + t)) ∙ mul-assoc d (2 ^ (10 + t)) (2 ^ 42) ∙ ap (λ (z : ℕ). d * z) (sym (pow-add 2 (10 + t) 42) ∙ ap (λ (z : ℕ). 2 ^ z) (sum t))
+  -- m << 42 is the number whose root is taken
+  pub moved : (t : ℕ) → d * 2 ^ (10 + t) * 2 ^ 42 ≡ d * 2 ^ (52 + t)
+  moved t = mul-assoc d (2 ^ (10 + t)) (2 ^ 42) ∙ ap (λ (z : ℕ). d * z) (sym (pow-add 2 (10 + t) 42) ∙ ap (λ (z : ℕ). 2 ^ z) (sum t))
     where
-      split : (m : ℕ) → m / 2 ^ 22 * 2 ^ 64 + (m * 2 ^ 42) % 2 ^ 64 ≡ m * 2 ^ 42
-      split m = omega arith
-
       sum : (t : ℕ) → 10 + t + 42 ≡ 52 + t
       sum t = omega arith
 
-  pub upper-word : (t : ℕ) → t < 2 → (0 < d * 2 ^ (10 + t) / 2 ^ 22) × (d * 2 ^ (10 + t) / 2 ^ 22 < 2 ^ 42)
-  upper-word t h = let r = shifted-range t h in (low (d * 2 ^ (10 + t)) (r .0), high (d * 2 ^ (10 + t)) (r .1))
-    where
-      low : (m : ℕ) → 2 ^ 62 ≤ m → 0 < m / 2 ^ 22
-      low m h = omega arith
-
-      high : (m : ℕ) → m < 2 ^ 64 → m / 2 ^ 22 < 2 ^ 42
-      high m h = omega arith
+  pub large : (t : ℕ) → t < 2 → 2 ^ 62 ≤ d * 2 ^ (10 + t)
+  large zero h = omega arith
+  large (suc zero) h = omega arith
+  large (suc (suc t)) h = omega arith
 
   pub scaled : (e : ℕ) → 104 ≤ e → e ≤ 3200 → Scaled (d * 2 ^ e) (d * 2 ^ (52 + e % 2)) ((e - 52) / 2)
   scaled e from to =
@@ -124,3 +112,10 @@ module _ (d : ℕ) (lo : 2 ^ 52 ≤ d) (hi : d < 2 ^ 53) where
         high = in-range t T .1;
         top = omega arith;
       }
+
+-- ---- the two words of m << 42
+pub words : (m : ℕ) → m / 2 ^ 22 * 2 ^ 64 + (m * 2 ^ 42) % 2 ^ 64 ≡ m * 2 ^ 42
+words m = omega arith
+
+pub upper-word : (m : ℕ) → 2 ^ 62 ≤ m → m < 2 ^ 64 → (0 < m / 2 ^ 22) × (m / 2 ^ 22 < 2 ^ 42)
+upper-word m h k = (omega arith, omega arith)

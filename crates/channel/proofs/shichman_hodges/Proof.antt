@@ -1,48 +1,48 @@
-use Rattle.channel.specs.Channel.{shichmanHodgesOf, inRegionOf, cutoffOf}
+use mathlib.Core.Path.{_≡_}
+use mathlib.Core.Bool.{true, false}
+use lib.Ieee.{Float}
+use Rattle.exact.specs.Float64.{_⊖_, _<f_}
+use Rattle.channel.specs.Channel.{shichmanHodgesOf, inRegionOf, regionOf, cutoffOf, triodeOf, saturationOf}
+use Rattle.channel.specs.declared.Channel.{Channel}
 use borrow.Author.Needs.{needs}
 use Rattle.channel.proofs.shichman_hodges.Statement.{statement}
 use Rattle.channel.proofs.shichman_hodges.Tie as tie
 
-region-at-requires : tie.Need-region-at-requires
-region-at-requires c κs = search needs
+-- the definition by its tests
+module _ (beta vgs vds vth lambda slope : Float) where
+  cutoff : (vgs <f vth) ≡ true → cutoffOf ≡ shichmanHodgesOf beta vgs vds vth lambda slope
+  unfolding shichmanHodgesOf inRegionOf regionOf
+  cutoff h = rw h
 
-enum-told : tie.Need-enum-told
-enum-told c = search needs
+  in-triode : (vgs <f vth) ≡ false → (vds <f vgs ⊖ vth) ≡ true → {r : Channel} → r ≡ triodeOf beta (vgs ⊖ vth) vds lambda slope → r ≡ shichmanHodgesOf beta vgs vds vth lambda slope
+  unfolding shichmanHodgesOf inRegionOf regionOf
+  in-triode h k e = rw (h, k) e
 
-enum-told-2 : tie.Need-enum-told-2
-enum-told-2 c = search needs
+  saturated : (vgs <f vth) ≡ false → (vds <f vgs ⊖ vth) ≡ false → {r : Channel} → r ≡ saturationOf beta (vgs ⊖ vth) vds lambda slope → r ≡ shichmanHodgesOf beta vgs vds vth lambda slope
+  unfolding shichmanHodgesOf inRegionOf regionOf
+  saturated h k e = rw (h, k) e
+
+returns : tie.Need-returns
+unfolding cutoffOf
+returns c = let a = c .before .args in cutoff (a .beta) (a .vgs) (a .vds) (a .vth) (a .lambda) (a .slope) (c .if1 .taken)
 
 triode-requires : tie.Need-triode-requires
 triode-requires c κs = search needs
 
-enum-told-3 : tie.Need-enum-told-3
-enum-told-3 c = search needs
+returns-2 : tie.Need-returns-2
+returns-2 c =
+    let d = c .before in
+    let a = d .before .before .args in
+    in-triode (a .beta) (a .vgs) (a .vds) (a .vth) (a .lambda) (a .slope) (d .before .if1 .left) (d .if2 .taken) (c .triode .ensures)
 
 saturation-requires : tie.Need-saturation-requires
 saturation-requires c κs = search needs
 
-returns : tie.Need-returns
-unfolding shichmanHodgesOf inRegionOf cutoffOf
-returns c = rw (← c .before .before .region-at .ensures, c .enum-told .given .1)
-
-returns-2 : tie.Need-returns-2
-unfolding shichmanHodgesOf inRegionOf cutoffOf
-returns-2 c = rw (← c .before .before .before .region-at .ensures, c .before .enum-told2 .given .1) (c .triode .ensures)
-
 returns-3 : tie.Need-returns-3
-unfolding shichmanHodgesOf inRegionOf cutoffOf
-returns-3 c = rw (← c .before .before .before .region-at .ensures, c .before .enum-told3 .given .1) (c .saturation .ensures)
+returns-3 c =
+    let d = c .before in
+    let a = d .before .before .args in
+    saturated (a .beta) (a .vgs) (a .vds) (a .vth) (a .lambda) (a .slope) (d .before .if1 .left) (d .if2 .left) (c .saturation .ensures)
 
 pub shichman-hodges-spec : {M : Type 1} → statement M
-shichman-hodges-spec =
-    tie.close
-    (tie.spec
-    region-at-requires
-    enum-told
-    enum-told-2
-    triode-requires
-    enum-told-3
-    saturation-requires
-    returns
-    returns-2
-    returns-3)
+shichman-hodges-spec = tie.close (tie.spec returns triode-requires returns-2 saturation-requires returns-3)

@@ -1,61 +1,90 @@
 -- `exponential::exp` meets its contract. Assumes nothing.
-use mathlib.Core.Path.{refl, ap, _∙_}
-use lib.Ieee.{Float, ofBits, div}
+use mathlib.Core.Path.{_≡_, sym, ap, _∙_, subst}
+use Prim.Native.Nat.{ℕ, _*_, _^_, _≤_}
+use lib.Dec.{T}
+use lib.Ieee.{Float, binary64, fits, le, ofBits, div, neg}
+use lib.Ieee.Fits.{neg-fits}
+use lib.Ieee.Positive.{positive}
 use Rattle.exact.specs.Float64.{_⊘_, +1}
-use Rattle.exponential.specs.Exponential.{expOf}
-use Rattle.exponential.proofs.Ranges.{cond-yes, cond-else, above, below}
+use Rattle.exact.proofs.Tests.{holds}
+use Rattle.exponential.specs.Exponential.{greatest, fixedOf, expFixed}
+use Rattle.exponential.proofs.Cutting.{fixed-bounds}
+use Rattle.exponential.proofs.Accuracy.{exp-special-cases}
+use Rattle.exponential.proofs.BySize.{at-most, plus-range, minus-range, exp-of-plus, exp-of-minus, exp-near-zero, exp-of-nan}
 use Rattle.exponential.proofs.exp.Statement.{statement}
 use Rattle.exponential.proofs.exp.Tie as tie
-use Rattle.exponential.proofs.exp.Reads as reads
-use Rattle.exponential.proofs.exp.Lts as lts
-use Rattle.exponential.proofs.exp_above.Reads as exp-above-reads
+
+-- what owning an `f64` tells: the format holds it
+held : (c : tie.Start) → T (fits binary64 (c .args .x))
+held c = subst T (sym (c .good .0 .1)) tt
+
+-- what `exp_fixed` takes
+few : (y : Float) → T (fits binary64 y) → T (positive y) × T (le y greatest) → (r : ℕ) → r ≡ fixedOf y → r ≤ 700 * 2 ^ 53
+few y f p r e = subst (λ (z : ℕ). z ≤ 700 * 2 ^ 53) (sym e) (fixed-bounds y f (p .0) (p .1) .0)
 
 returns : tie.Need-returns
-unfolding expOf div ofBits
-returns c = cond-yes _ _ _ (c .if1 .taken)
+returns c = sym (exp-special-cases .below (c .before .before .args .x) (holds (c .if2 .taken)))
+
+whole-part-requires : tie.Need-whole-part-requires
+whole-part-requires c κs =
+    let x = c .before .before .args .x in
+    (at-most x (c .before .if1 .taken), minus-range x (c .before .if1 .taken) (c .if2 .left) .1)
+
+exp-fixed-requires : tie.Need-exp-fixed-requires
+exp-fixed-requires c κs =
+    let d = c .before in
+    let s = d .before .before in
+    few (neg (s .args .x)) (neg-fits binary64 (s .args .x) (held s)) (minus-range (s .args .x) (d .before .if1 .taken) (d .if2 .left)) _ (c .whole-part .ensures)
 
 returns-2 : tie.Need-returns-2
-unfolding expOf
-returns-2 c = cond-else _ _ _ _ (c .before .if1 .left) (cond-yes _ _ _ (c .if2 .taken))
-
-exp-above-requires : tie.Need-exp-above-requires
-exp-above-requires c κs = above (c .before .before .before .args .x) (c .if3 .taken) (c .before .before .if1 .left)
+returns-2 c =
+    let d = c .before .before in
+    let x = d .before .before .args .x in
+    let r = minus-range x (d .before .if1 .taken) (d .if2 .left) in
+    ap (λ (y : Float). +1 ⊘ y) (c .exp-fixed .ensures ∙ ap expFixed (c .before .whole-part .ensures)) ∙ exp-of-minus x (r .0) (r .1)
 
 returns-3 : tie.Need-returns-3
-unfolding expOf
-returns-3 c = cond-else _ _ _ _ (c .before .before .before .if1 .left) (cond-else _ _ _ _ (c .before .before .if2 .left) (c .exp-above .ensures ∙ cond-yes _ _ _ (c .before .if3 .taken)))
+unfolding div ofBits
+returns-3 c = sym (exp-special-cases .above (c .before .before .before .args .x) (holds (c .if4 .taken)))
 
-exp-above-requires-2 : tie.Need-exp-above-requires-2
-exp-above-requires-2 c κs = below (c .before .before .before .before .args .x) (c .if4 .taken) (c .before .before .if2 .left)
+whole-part-requires-2 : tie.Need-whole-part-requires-2
+whole-part-requires-2 c κs =
+    let x = c .before .before .before .args .x in
+    (holds (c .before .if3 .taken), plus-range x (c .before .if3 .taken) (c .if4 .left) .1)
+
+exp-fixed-requires-2 : tie.Need-exp-fixed-requires-2
+exp-fixed-requires-2 c κs =
+    let d = c .before in
+    let s = d .before .before .before in
+    few (s .args .x) (held s) (plus-range (s .args .x) (d .before .if3 .taken) (d .if4 .left)) _ (c .whole-part2 .ensures)
 
 returns-4 : tie.Need-returns-4
-unfolding expOf
 returns-4 c =
-    let d = c .before in
-    cond-else _ _ _ _ (d .before .before .before .if1 .left) (cond-else _ _ _ _ (d .before .before .if2 .left) (cond-else _ _ _ _ (d .before .if3 .left)
-    (ap (λ (y : Float). +1 ⊘ y) (c .exp-above2 .ensures) ∙ cond-yes _ _ _ (d .if4 .taken))))
+    let d = c .before .before in
+    let x = d .before .before .before .args .x in
+    let r = plus-range x (d .before .if3 .taken) (d .if4 .left) in
+    c .exp-fixed2 .ensures ∙ ap expFixed (c .before .whole-part2 .ensures) ∙ exp-of-plus x (r .0) (r .1)
 
 returns-5 : tie.Need-returns-5
-unfolding expOf
 returns-5 c =
-    cond-else _ _ _ _ (c .before .before .before .before .if1 .left) (cond-else _ _ _ _ (c .before .before .before .if2 .left) (cond-else _ _ _ _ (c .before .before .if3 .left)
-    (cond-else _ _ _ _ (c .before .if4 .left) (cond-yes _ _ _ (c .if5 .taken)))))
+    let s = c .before .before .before in
+    exp-near-zero (s .args .x) (held s) (c .before .before .if1 .left) (c .before .if3 .left) (c .if5 .taken)
 
 returns-6 : tie.Need-returns-6
-unfolding expOf div ofBits
-returns-6 c =
-    cond-else _ _ _ _ (c .before .before .before .before .if1 .left) (cond-else _ _ _ _ (c .before .before .before .if2 .left) (cond-else _ _ _ _ (c .before .before .if3 .left)
-    (cond-else _ _ _ _ (c .before .if4 .left) (cond-else _ _ _ _ (c .if5 .left) refl))))
+unfolding div ofBits
+returns-6 c = exp-of-nan (c .before .before .before .args .x) (c .if5 .left)
 
 pub exp-spec : {M : Type 1} → statement M
 exp-spec =
     tie.close
     (tie.spec
     returns
+    whole-part-requires
+    exp-fixed-requires
     returns-2
-    exp-above-requires
     returns-3
-    exp-above-requires-2
+    whole-part-requires-2
+    exp-fixed-requires-2
     returns-4
     returns-5
     returns-6)

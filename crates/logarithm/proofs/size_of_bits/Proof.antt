@@ -4,9 +4,9 @@ use Prim.Native.Nat.{ℕ, _+_, _-_, _*_, _/_, _^_, _≤_, _<_}
 use native.Mathlib.Omega.{arith}
 use native.Mathlib.Nat.{le-trans}
 use lib.Dec.{lit≤}
-use lib.Bits.{and-mask, mask-lt}
 use lib.Count.{leadingZeros, leading-le}
 use mir.Facts.{fits-le, fits-lit, fits-bits}
+use borrow.Author.Needs.{needs}
 use borrow.Author.Tests.{lt-ltb, le-ltb}
 use Rattle.exact.proofs.LeadingDigits.{lead}
 use Rattle.exponential.proofs.Ranges.{cond-yes, cond-else}
@@ -15,12 +15,6 @@ use Rattle.logarithm.specs.FixedPoint.{lnMantOf, twosOf}
 use Rattle.logarithm.specs.Logarithm.{logAbove, logBelow, logBits}
 use Rattle.logarithm.proofs.size_of_bits.Statement.{statement}
 use Rattle.logarithm.proofs.size_of_bits.Tie as tie
-
-from : (x : ℕ) → 2 ^ 62 ≤ (x + 2 ^ 52) * 1024
-from x = omega arith
-
-digits : (x : ℕ) → x < 2 ^ 52 → (x + 2 ^ 52) * 1024 < 2 ^ 63
-digits x h = omega arith
 
 cast-z : tie.Need-cast-z
 cast-z c = fits-le (leading-le 64 (c .before .args .bits)) (fits-lit tt)
@@ -63,23 +57,14 @@ returns c =
     field : (b : ℕ) → b < 2 ^ 52 → b / 2 ^ 52 < 1023
     field b h = omega arith
 
-add-m : tie.Need-add-m
-add-m c = fits-bits 64 tt (sum _ (mask-lt (c .before .args .bits) 52))
-  where
-    sum : (x : ℕ) → x < 2 ^ 52 → x + 2 ^ 52 < 2 ^ 64
-    sum x h = omega arith
-
-mul-m : tie.Need-mul-m
-mul-m c = fits-bits 64 tt (product _ (mask-lt (c .before .args .bits) 52))
-  where
-    product : (x : ℕ) → x < 2 ^ 52 → (x + 2 ^ 52) * 1024 < 2 ^ 64
-    product x h = omega arith
+digits-requires : tie.Need-digits-requires
+digits-requires c κs = search needs
 
 sub-log-below-2 : tie.Need-sub-log-below-2
 sub-log-below-2 c = let h = c .if2 .taken in omega (arith, h)
 
 log-below-requires-2 : tie.Need-log-below-requires-2
-log-below-requires-2 c κs = (from _, digits _ (mask-lt (c .before .before .args .bits) 52), some _ (c .if2 .taken), few _)
+log-below-requires-2 c κs = let d = c .before .digits .ensures in (d .1, d .2, some _ (c .if2 .taken), few _)
   where
     some : (f : ℕ) → f < 1023 → 0 < 1023 - f
     some f h = omega arith
@@ -90,15 +75,16 @@ log-below-requires-2 c κs = (from _, digits _ (mask-lt (c .before .before .args
 returns-2 : tie.Need-returns-2
 unfolding logBits logBelow
 returns-2 c =
-    let b = c .before .before .before .args .bits in
+    let d = c .before .before in
+    let b = d .before .before .args .bits in
     let e = lt-ltb (b / 2 ^ 52) 1023 (c .before .if2 .taken) in
     sym
-    (ap Below (c .log-below2 .ensures ∙ ap (λ (x : ℕ). twosOf (1023 - b / 2 ^ 52) - lnMantOf ((x + 2 ^ 52) * 1024) / 2048) (and-mask b 52))
-    ∙ cond-else _ _ _ _ (le-ltb b (2 ^ 52) (c .before .before .if1 .left)) (cond-yes _ _ _ e))
+    (ap Below (c .log-below2 .ensures ∙ ap (λ (m : ℕ). twosOf (1023 - b / 2 ^ 52) - lnMantOf m / 2048) (d .digits .ensures .0))
+    ∙ cond-else _ _ _ _ (le-ltb b (2 ^ 52) (d .before .if1 .left)) (cond-yes _ _ _ e))
     ∙ cond-yes _ _ _ e
 
 log-above-requires : tie.Need-log-above-requires
-log-above-requires c κs = (from _, digits _ (mask-lt (c .before .before .args .bits) 52), field _ (c .before .before .pre .1))
+log-above-requires c κs = let d = c .before .digits .ensures in (d .1, d .2, field _ (c .before .before .before .pre .1))
   where
     field : (b : ℕ) → b < 2047 * 2 ^ 52 → b / 2 ^ 52 - 1023 ≤ 1100
     field b h = omega arith
@@ -106,12 +92,13 @@ log-above-requires c κs = (from _, digits _ (mask-lt (c .before .before .args .
 returns-3 : tie.Need-returns-3
 unfolding logBits logAbove
 returns-3 c =
-    let b = c .before .before .before .args .bits in
+    let d = c .before .before in
+    let b = d .before .before .args .bits in
     let e = le-ltb (b / 2 ^ 52) 1023 (c .before .if2 .left) in
     sym
-    (ap Above (c .log-above .ensures ∙ ap (λ (x : ℕ). twosOf (b / 2 ^ 52 - 1023) + lnMantOf ((x + 2 ^ 52) * 1024) / 2048) (and-mask b 52))
-    ∙ cond-else _ _ _ _ (le-ltb b (2 ^ 52) (c .before .before .if1 .left)) (cond-else _ _ _ _ e refl))
+    (ap Above (c .log-above .ensures ∙ ap (λ (m : ℕ). twosOf (b / 2 ^ 52 - 1023) + lnMantOf m / 2048) (d .digits .ensures .0))
+    ∙ cond-else _ _ _ _ (le-ltb b (2 ^ 52) (d .before .if1 .left)) (cond-else _ _ _ _ e refl))
     ∙ cond-else _ _ _ _ e refl
 
 pub size-of-bits-spec : {M : Type 1} → statement M
-size-of-bits-spec = tie.close (tie.spec cast-z sub-log-below shl-log-below add-log-below log-below-requires returns add-m mul-m sub-log-below-2 log-below-requires-2 returns-2 log-above-requires returns-3)
+size-of-bits-spec = tie.close (tie.spec cast-z sub-log-below shl-log-below add-log-below log-below-requires returns digits-requires sub-log-below-2 log-below-requires-2 returns-2 log-above-requires returns-3)
