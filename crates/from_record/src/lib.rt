@@ -344,8 +344,8 @@ fn history_tags(h: HistoriesRecord) -> u64
         | h.bd_hist.q_prev2.tag
 }
 
-// `good_tags` by three tests in place of sixteen. An evaluation is faster with it; a load, which has to tell the terminals' tags
-// apart all the same, is faster with the tests one by one.
+// `good_tags` by four tests in place of sixteen. Compiled into an evaluation it takes 2 % off the instructions, into a load it adds
+// 1 to 2 %: so there are both.
 pub fn good_tags_at_once(d: DeviceRecord) -> bool
     ensures { λ r. ⌜ r ≡ goodTags d ⌝ }
 {

@@ -12,8 +12,8 @@ use record::PointRecord;
 use temperature::Kelvin;
 ghost use mathlib.Core.Path.{_≡_};
 ghost use Rattle.model.specs.Calls.{outcomeOfEvaluation, outcomeOfCommit};
-ghost use Rattle.record_steps.specs.Steps.{goodConditions, conditionsFrom, answerRecord, refusedReply, evaluatedChanges, evaluationGiven, evaluateOf, commitGiven, commitRecordOf};
-ghost use Rattle.record_steps.specs.declared.ChangesOrRefusal.the-variants.{Changes};
+ghost use Rattle.record_steps.specs.Steps.{goodConditions, conditionsFrom, answerRecord, refusedReply, evaluatedChanges, directCurrentGiven, evaluationGiven, evaluateOf, commitGiven, commitRecordOf};
+ghost use Rattle.record_steps.specs.declared.ChangesOrRefusal.the-variants.{Changes, DirectCurrent};
 
 // What an evaluation is handed besides the voltages. The limiter and the transient flag are 0 or 1.
 #[repr(C)]
@@ -61,9 +61,17 @@ pub struct EvaluationChanges {
     pub stage: u64,
 }
 
-// A refused evaluation changes no part of the record: there is its reply alone, so that nobody has to store what did not change.
+// The same without the transient flag: the charges stay as they are, and the stage is known.
+pub struct DirectCurrentChanges {
+    pub reply: EvaluationReply,
+    pub point: PointRecord,
+    pub method: MethodRecord,
+}
+
+// A refused evaluation changes no part of the record: there is its reply alone. So nobody has to store what did not change.
 pub enum ChangesOrRefusal {
     Changes(EvaluationChanges),
+    DirectCurrent(DirectCurrentChanges),
     Refusal(EvaluationReply),
 }
 
@@ -160,11 +168,36 @@ fn accepted_evaluation(e: Evaluated) -> ChangesOrRefusal
     ChangesOrRefusal::Changes(changes)
 }
 
-fn evaluation_changes(a: Evaluation) -> ChangesOrRefusal
-    ensures { λ c. ⌜ c ≡ evaluationGiven (outcomeOfEvaluation a) ⌝ }
+fn accepted_direct_current(e: Evaluated) -> ChangesOrRefusal
+    ensures { λ c. ⌜ c ≡ DirectCurrent (directCurrentGiven e) ⌝ }
+{
+    let a = e.answer;
+    let d = e.device;
+    let point = d.point;
+    let disc = d.disc;
+    let reply = EvaluationReply {
+        refusal: 0,
+        answer: answer_record(a),
+    };
+    let changes = DirectCurrentChanges {
+        reply,
+        point: record::point_record(point),
+        method: record::method_record(disc),
+    };
+    ChangesOrRefusal::DirectCurrent(changes)
+}
+
+fn evaluation_changes(a: Evaluation, transient: bool) -> ChangesOrRefusal
+    ensures { λ c. ⌜ c ≡ evaluationGiven transient (outcomeOfEvaluation a) ⌝ }
 {
     match a {
-        Evaluation::Done(e) => accepted_evaluation(e),
+        Evaluation::Done(e) => {
+            if transient {
+                accepted_evaluation(e)
+            } else {
+                accepted_direct_current(e)
+            }
+        }
         Evaluation::Refused(n) => ChangesOrRefusal::Refusal(refused_reply(record::wide(n))),
     }
 }
@@ -173,7 +206,7 @@ fn evaluation_changes(a: Evaluation) -> ChangesOrRefusal
 pub fn evaluate(r: DeviceRecord, x: &[f64], k: ConditionsRecord) -> ChangesOrRefusal
     ensures { λ c. ⌜ c ≡ evaluateOf r (now (x .entry)) k ⌝ }
 {
-    if !from_record::good_tags(r) {
+    if !from_record::good_tags_at_once(r) {
         return ChangesOrRefusal::Refusal(refused_reply(100));
     }
     if !good_conditions(k) {
@@ -183,7 +216,7 @@ pub fn evaluate(r: DeviceRecord, x: &[f64], k: ConditionsRecord) -> ChangesOrRef
     let conditions = conditions_from(k);
     let transient = k.transient == 1;
     let a = model::calls::eval(d, x, transient, conditions);
-    evaluation_changes(a)
+    evaluation_changes(a, transient)
 }
 
 fn commit_changes(a: Commit) -> CommitAnswer

@@ -11,6 +11,9 @@ enum-known-a c = search needs
 accepted-evaluation-requires : tie.Need-accepted-evaluation-requires
 accepted-evaluation-requires c κs = search needs
 
+accepted-direct-current-requires : tie.Need-accepted-direct-current-requires
+accepted-direct-current-requires c κs = search needs
+
 enum-known-a-2 : tie.Need-enum-known-a-2
 enum-known-a-2 c = search needs
 
@@ -22,11 +25,15 @@ refused-reply-requires c κs = search needs
 
 returns : tie.Need-returns
 unfolding evaluationGiven
-returns c = rw (c .before .before .a .given .1) (c .accepted-evaluation .ensures)
+returns c = rw (c .before .before .before .a .given .1, c .before .if1 .taken) (c .accepted-evaluation .ensures)
 
 returns-2 : tie.Need-returns-2
 unfolding evaluationGiven
-returns-2 c = rw (c .refused-reply .ensures, c .before .wide .ensures, c .before .before .before .a2 .given .1)
+returns-2 c = rw (c .before .before .before .a .given .1, c .before .if1 .left) (c .accepted-direct-current .ensures)
+
+returns-3 : tie.Need-returns-3
+unfolding evaluationGiven
+returns-3 c = rw (c .refused-reply .ensures, c .before .wide .ensures, c .before .before .before .a2 .given .1)
 
 pub evaluation-changes-spec : {M : Type 1} → statement M
-evaluation-changes-spec = tie.close (tie.spec enum-known-a accepted-evaluation-requires enum-known-a-2 wide-requires refused-reply-requires returns returns-2)
+evaluation-changes-spec = tie.close (tie.spec enum-known-a accepted-evaluation-requires accepted-direct-current-requires enum-known-a-2 wide-requires refused-reply-requires returns returns-2 returns-3)
