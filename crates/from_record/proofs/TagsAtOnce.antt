@@ -35,8 +35,12 @@ third-apart true true false true true s = refl
 third-apart true true false true false s = refl
 third-apart true true false false h s = refl
 
--- every tag is known where the OR is at most 1, the method's is at most 3 and the stage is one; t and h stand for the terminals' and the histories'
+-- the OR of the card's two tags, the terminals' and the histories'
+abbrev pub orOf : DeviceRecord → ℕ → ℕ → ℕ
+orOf d t h = bitOr (bitOr (bitOr (d .card .«rd_card» .tag) (d .card .«rs_card» .tag)) t) h
+
+-- every tag is known where the OR is at most 1, the method's is at most 3 and the stage is one
 pub tags-at-once : (d : DeviceRecord) (t h : ℕ) → leb t 1 ≡ goodTerminals (d .terminals) → leb h 1 ≡ goodHistories (d .histories) →
-    goodTags d ≡ cond (leb (bitOr (bitOr (bitOr (d .card .«rd_card» .tag) (d .card .«rs_card» .tag)) t) h) 1) (cond (leb (d .method .tag) 3) (goodStage (d .stage)) false) false
+    goodTags d ≡ cond (leb (orOf d t h) 1) (cond (leb (d .method .tag) 3) (goodStage (d .stage)) false) false
 unfolding goodTags
 tags-at-once d t h e f = rw (or-known _ _, or-known _ _, or-known _ _, e, f) (third-apart (leb (d .card .«rd_card» .tag) 1) (leb (d .card .«rs_card» .tag) 1) (leb (d .method .tag) 3) (goodTerminals (d .terminals)) (goodHistories (d .histories)) (goodStage (d .stage)))
