@@ -78,7 +78,7 @@ fn answer_and_point(
 }
 
 // Without the transient flag the last transient evaluation's values stay.
-fn evaluated_charges(d: Mosfet1, v: Voltages, transient: bool, a: Answer) -> Charges
+pub fn evaluated_charges(d: Mosfet1, v: Voltages, transient: bool, a: Answer) -> Charges
     ensures { λ r. ⌜ r ≡ evaluatedChargesOf d v transient a ⌝ }
 {
     if transient {

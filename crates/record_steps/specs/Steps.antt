@@ -1,14 +1,16 @@
 -- Evaluation and commit of a device that is a record: a record with an unknown tag is refused under 100, any other as its device is.
 -- What a call does not change stays in the record as it was handed in, unused fields too.
 use Prim.Native.Nat.{ℕ}
-use mathlib.Core.Bool.{Bool, cond, _&&_}
+use mathlib.Core.Bool.{Bool, true, cond, _&&_}
 use mathlib.Core.List.{List}
 use lib.Dec.{eqb, leb}
 use lib.Ieee.{Float}
 use Rattle.exact.specs.Float64.{+0}
 use Rattle.bias.specs.declared.Answer.{Answer}
+use Rattle.mosfet1.specs.Steps.{evaluatedChargesOf}
 use Rattle.mosfet1.specs.declared.steps.Conditions.{Conditions}
 use Rattle.mosfet1.specs.declared.steps.Evaluated.{Evaluated}
+use Rattle.rows.specs.Rows.{voltagesOf}
 use Rattle.model.specs.Calls.{evalOf, commitOf}
 use Rattle.device.specs.Refusals.{Outcome, done, refused}
 use Rattle.device.specs.declared.Mosfet1.{Mosfet1}
@@ -143,6 +145,28 @@ directCurrentGiven e =
 unfoldable pub evaluationGiven : Bool → Outcome Evaluated → ChangesOrRefusal
 evaluationGiven transient (done e) = cond transient (Changes (evaluatedChanges e)) (DirectCurrent (directCurrentGiven e))
 evaluationGiven transient (refused n) = Refusal (refusedReply n)
+
+-- an evaluation without the transient flag with the charges of one with it: d is the device before, x the lent list
+unfoldable pub chargedOf : Mosfet1 → List Float → Evaluated → Evaluated
+chargedOf d x e =
+    record {
+      device = record {
+        card = e .device .card;
+        geometry = e .device .geometry;
+        scaled = e .device .scaled;
+        terminals = e .device .terminals;
+        point = e .device .point;
+        charges = evaluatedChargesOf d (voltagesOf x (d .terminals)) true (e .answer);
+        histories = e .device .histories;
+        disc = e .device .disc;
+        stage = e .device .stage;
+      };
+      answer = e .answer;
+    }
+
+unfoldable pub withCharges : Bool → Mosfet1 → List Float → Outcome Evaluated → Outcome Evaluated
+withCharges transient d x (done e) = done (cond transient (chargedOf d x e) e)
+withCharges transient d x (refused n) = refused n
 
 unfoldable pub evaluateOf : DeviceRecord → List Float → ConditionsRecord → ChangesOrRefusal
 evaluateOf r x k =

@@ -1,5 +1,6 @@
 // Evaluation and commit of a device that is a record.
 use bias::Answer;
+use device::Mosfet1;
 use model::calls::Commit;
 use model::calls::Evaluation;
 use mosfet1::steps::Conditions;
@@ -12,7 +13,7 @@ use record::PointRecord;
 use temperature::Kelvin;
 ghost use mathlib.Core.Path.{_≡_};
 ghost use Rattle.model.specs.Calls.{outcomeOfEvaluation, outcomeOfCommit};
-ghost use Rattle.record_steps.specs.Steps.{goodConditions, conditionsFrom, answerRecord, refusedReply, evaluatedChanges, directCurrentGiven, evaluationGiven, evaluateOf, commitGiven, commitRecordOf};
+ghost use Rattle.record_steps.specs.Steps.{goodConditions, conditionsFrom, answerRecord, refusedReply, evaluatedChanges, directCurrentGiven, evaluationGiven, chargedOf, withCharges, evaluateOf, commitGiven, commitRecordOf};
 ghost use Rattle.record_steps.specs.declared.ChangesOrRefusal.the-variants.{Changes, DirectCurrent};
 
 // What an evaluation is handed besides the voltages. The limiter and the transient flag are 0 or 1.
@@ -168,6 +169,20 @@ fn accepted_evaluation(e: Evaluated) -> ChangesOrRefusal
     ChangesOrRefusal::Changes(changes)
 }
 
+// An evaluation without the transient flag, and the charges of one with it. So the charges are worked out where they are wanted, and
+// nothing that they need is held ready where they are not.
+fn accepted_transient(e: Evaluated, d: Mosfet1, x: &[f64]) -> ChangesOrRefusal
+    ensures { λ c. ⌜ c ≡ Changes (evaluatedChanges (chargedOf d (now (x .entry)) e)) ⌝ }
+{
+    let answer = e.answer;
+    let v = rows::voltages(x, d.terminals);
+    let charges = mosfet1::steps::evaluated_charges(d, v, true, answer);
+    let mut device = e.device;
+    device.charges = charges;
+    let charged = Evaluated { device, answer };
+    accepted_evaluation(charged)
+}
+
 fn accepted_direct_current(e: Evaluated) -> ChangesOrRefusal
     ensures { λ c. ⌜ c ≡ DirectCurrent (directCurrentGiven e) ⌝ }
 {
@@ -187,13 +202,14 @@ fn accepted_direct_current(e: Evaluated) -> ChangesOrRefusal
     ChangesOrRefusal::DirectCurrent(changes)
 }
 
-fn evaluation_changes(a: Evaluation, transient: bool) -> ChangesOrRefusal
-    ensures { λ c. ⌜ c ≡ evaluationGiven transient (outcomeOfEvaluation a) ⌝ }
+// a is the evaluation without the transient flag.
+fn evaluation_changes(a: Evaluation, transient: bool, d: Mosfet1, x: &[f64]) -> ChangesOrRefusal
+    ensures { λ c. ⌜ c ≡ evaluationGiven transient (withCharges transient d (now (x .entry)) (outcomeOfEvaluation a)) ⌝ }
 {
     match a {
         Evaluation::Done(e) => {
             if transient {
-                accepted_evaluation(e)
+                accepted_transient(e, d, x)
             } else {
                 accepted_direct_current(e)
             }
@@ -215,8 +231,8 @@ pub fn evaluate(r: DeviceRecord, x: &[f64], k: ConditionsRecord) -> ChangesOrRef
     let d = from_record::device_from(r);
     let conditions = conditions_from(k);
     let transient = k.transient == 1;
-    let a = model::calls::eval(d, x, transient, conditions);
-    evaluation_changes(a, transient)
+    let a = model::calls::eval(d, x, false, conditions);
+    evaluation_changes(a, transient, d, x)
 }
 
 fn commit_changes(a: Commit) -> CommitAnswer

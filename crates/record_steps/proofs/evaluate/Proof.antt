@@ -2,6 +2,7 @@
 -- Assumes nothing.
 use borrow.Author.Tests.{not-true, not-false}
 use Rattle.record_steps.specs.Steps.{evaluateOf}
+use Rattle.record_steps.proofs.WithCharges.{with-charges}
 use borrow.Author.Needs.{needs}
 use Rattle.record_steps.proofs.evaluate.Statement.{statement}
 use Rattle.record_steps.proofs.evaluate.Tie as tie
@@ -40,7 +41,7 @@ evaluation-changes-requires c κs = search needs
 
 returns-3 : tie.Need-returns-3
 unfolding evaluateOf
-returns-3 c = rw (c .evaluation-changes .ensures, c .before .eval .ensures, c .before .before .before .conditions-from .ensures, c .before .before .before .before .device-from .ensures, ← c .before .before .before .before .before .before .before .before .good-tags-at-once .ensures, not-false (c .before .before .before .before .before .before .before .before .good-tags-at-once .result) (c .before .before .before .before .before .before .before .if1 .left), ← c .before .before .before .before .before .before .good-conditions .ensures, not-false (c .before .before .before .before .before .before .good-conditions .result) (c .before .before .before .before .before .if2 .left))
+returns-3 c = rw (c .evaluation-changes .ensures, c .before .eval .ensures, with-charges _ _ _ _, c .before .before .before .conditions-from .ensures, c .before .before .before .before .device-from .ensures, ← c .before .before .before .before .before .before .before .before .good-tags-at-once .ensures, not-false (c .before .before .before .before .before .before .before .before .good-tags-at-once .result) (c .before .before .before .before .before .before .before .if1 .left), ← c .before .before .before .before .before .before .good-conditions .ensures, not-false (c .before .before .before .before .before .before .good-conditions .result) (c .before .before .before .before .before .if2 .left))
 
 pub evaluate-spec : {M : Type 1} → statement M
 evaluate-spec = tie.close (tie.spec good-tags-at-once-requires refused-reply-requires returns good-conditions-requires refused-reply-requires-2 returns-2 device-from-requires conditions-from-requires eval-requires evaluation-changes-requires returns-3)
