@@ -9,7 +9,7 @@ use Rattle.device.specs.declared.OperatingPoint.{OperatingPoint}
 use Rattle.threshold.specs.Limiter.{limitedVgsOf, limitedVdsOf}
 use Rattle.threshold.specs.Threshold.{bodyPotentialOf, thresholdOf, bodySlopeOf}
 use Rattle.channel.specs.Channel.{shichmanHodgesOf, nortonCurrentOf}
-use Rattle.junction.specs.Junction.{bulkJunctionOf, junctionOffsetOf}
+use Rattle.junction.specs.Junction.{bulkJunctionOf, junctionAtOf, junctionOffsetOf}
 use Rattle.channel.specs.declared.Channel.{Channel}
 use Rattle.junction.specs.declared.Junction.{Junction}
 use Rattle.bias.specs.declared.Voltages.{Voltages}
@@ -59,6 +59,10 @@ stampFromOf pol v at = record { g = at .g; eq = junctionOffsetOf pol (at .i) (at
 -- v is a voltage from the bulk, not flipped
 unfoldable pub junctionStampOf : Float → Float → Float → Float → Float → JunctionStamp
 junctionStampOf isat pol v vt gmin = stampFromOf pol (pol ⊗ v) (bulkJunctionOf isat (pol ⊗ v) vt gmin)
+
+-- the same from the junction's exponential e, which is at the flipped voltage
+unfoldable pub junctionStampAtOf : Float → Float → Float → Float → Float → Float → JunctionStamp
+junctionStampAtOf isat e pol v vt gmin = stampFromOf pol (pol ⊗ v) (junctionAtOf isat e (pol ⊗ v) vt gmin)
 
 -- what an evaluation leaves; jeq is taken at the kept vgs and vds, turned back, and the nodes' vbs
 unfoldable pub operatingPointOf : Float → Answer → Float → JunctionStamp → JunctionStamp → OperatingPoint

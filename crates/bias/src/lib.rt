@@ -4,7 +4,7 @@ use device::Geometry;
 use device::OperatingPoint;
 use device::Scaled;
 ghost use mathlib.Core.Path.{_≡_};
-ghost use Rattle.bias.specs.Bias.{keptOf, channelAnswerOf, junctionStampOf, operatingPointOf};
+ghost use Rattle.bias.specs.Bias.{keptOf, channelAnswerOf, junctionStampAtOf, operatingPointOf};
 
 // The four inner nodes' voltages.
 pub struct Voltages {
@@ -86,12 +86,12 @@ pub fn channel_answer(
     }
 }
 
-// v is the voltage from the bulk, not flipped.
-pub fn junction_stamp(isat: f64, pol: f64, v: f64, vt: f64, gmin: f64) -> JunctionStamp
-    ensures { λ r. ⌜ r ≡ junctionStampOf isat pol v vt gmin ⌝ }
+// v is the voltage from the bulk, not flipped; e is the junction's exponential, at the flipped voltage.
+pub fn junction_stamp_at(isat: f64, e: f64, pol: f64, v: f64, vt: f64, gmin: f64) -> JunctionStamp
+    ensures { λ r. ⌜ r ≡ junctionStampAtOf isat e pol v vt gmin ⌝ }
 {
     let flipped = pol * v;
-    let at = junction::bulk_junction(isat, flipped, vt, gmin);
+    let at = junction::junction_at(isat, e, flipped, vt, gmin);
     let g = at.g;
     let eq = junction::junction_offset(pol, at.i, g, flipped);
     JunctionStamp { g, eq }

@@ -1,1 +1,2 @@
+pub mod TagsAtOnce
 pub mod ThereAndBack

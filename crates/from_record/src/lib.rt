@@ -26,6 +26,7 @@ use record::ScaledRecord;
 use record::TerminalsRecord;
 use temperature::Kelvin;
 ghost use mathlib.Core.Path.{_≡_};
+ghost use lib.Dec.{leb};
 ghost use Rattle.from_record.specs.Devices.{nodeFrom, givenFrom, methodFrom, stageFrom, cardFrom, geometryFrom, scaledFrom, terminalsFrom, pointFrom, chargesFrom, historyFrom, historiesFrom, deviceFrom};
 ghost use Rattle.from_record.specs.Tags.{goodTerminals, goodHistories, goodStage, goodTags};
 
@@ -319,6 +320,42 @@ pub fn good_tags(d: DeviceRecord) -> bool
     }
     let histories = d.histories;
     if !good_histories(histories) {
+        return false;
+    }
+    good_stage(d.stage)
+}
+
+// ---- the same tags at once
+
+// The OR of tags that may be 0 or 1 is 0 or 1 where each of them is, and above 1 where one is not.
+fn terminal_tags(t: TerminalsRecord) -> u64
+    ensures { λ r. ⌜ leb r 1 ≡ goodTerminals t ⌝ }
+{
+    t.drain_ext.tag | t.source_ext.tag | t.drain.tag | t.gate.tag | t.source.tag | t.bulk.tag
+}
+
+fn history_tags(h: HistoriesRecord) -> u64
+    ensures { λ r. ⌜ leb r 1 ≡ goodHistories h ⌝ }
+{
+    h.gs_hist.q_prev2.tag
+        | h.gd_hist.q_prev2.tag
+        | h.gb_hist.q_prev2.tag
+        | h.bs_hist.q_prev2.tag
+        | h.bd_hist.q_prev2.tag
+}
+
+// `good_tags` by four tests in place of sixteen. Compiled into an evaluation it takes 2 % off the instructions, into a load it adds
+// 1 to 2 %: so there are both.
+pub fn good_tags_at_once(d: DeviceRecord) -> bool
+    ensures { λ r. ⌜ r ≡ goodTags d ⌝ }
+{
+    let terminals = terminal_tags(d.terminals);
+    let histories = history_tags(d.histories);
+    let all = d.card.rd_card.tag | d.card.rs_card.tag | terminals | histories;
+    if 1 < all {
+        return false;
+    }
+    if 3 < d.method.tag {
         return false;
     }
     good_stage(d.stage)

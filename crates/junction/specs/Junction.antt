@@ -19,6 +19,14 @@ shockleyOf isat e v vt gmin = record { i = isat ⊗ (e ⊖ +1) ⊕ gmin ⊗ v; g
 unfoldable pub bulkJunctionOf : Float → Float → Float → Float → Junction
 bulkJunctionOf isat v vt gmin = cond (isat ≤f +0) (record { i = gmin ⊗ v; g = gmin }) (shockleyOf isat (expOf (v ⊘ vt)) v vt gmin)
 
+-- the exponential by itself: with isat not above 0 nothing reads it, and it is 0
+unfoldable pub junctionExponentialOf : Float → Float → Float → Float
+junctionExponentialOf isat v vt = cond (isat ≤f +0) +0 (expOf (v ⊘ vt))
+
+-- the junction from its exponential e
+unfoldable pub junctionAtOf : Float → Float → Float → Float → Float → Junction
+junctionAtOf isat e v vt gmin = cond (isat ≤f +0) (record { i = gmin ⊗ v; g = gmin }) (shockleyOf isat e v vt gmin)
+
 -- the Norton offset i - g v, turned back by the polarity
 unfoldable pub junctionOffsetOf : Float → Float → Float → Float → Float
 junctionOffsetOf pol i g v = pol ⊗ (i ⊖ g ⊗ v)

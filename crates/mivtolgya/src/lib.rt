@@ -171,7 +171,8 @@ pub extern "C" fn mivtolgya_small_signal_reactances(device: DeviceRecord) -> Rea
 
 // ---- the calls of the loop on a record where it lies
 
-// `mivtolgya_eval`. Only the parts that an evaluation changes are written, and none where it is refused.
+// `mivtolgya_eval`. Only the parts that an evaluation changes are written: the charges with the transient flag alone, and nothing
+// where it is refused. The stage of an evaluated device is 5.
 #[no_mangle]
 pub extern "C" fn mivtolgya_eval_in_place(
     device: &mut DeviceRecord,
@@ -188,6 +189,12 @@ pub extern "C" fn mivtolgya_eval_in_place(
             device.charges = changes.charges;
             device.method = changes.method;
             device.stage = changes.stage;
+            changes.reply
+        }
+        ChangesOrRefusal::DirectCurrent(changes) => {
+            device.point = changes.point;
+            device.method = changes.method;
+            device.stage = 5;
             changes.reply
         }
         ChangesOrRefusal::Refusal(reply) => reply,

@@ -24,6 +24,12 @@ pub struct Evaluated {
     pub answer: Answer,
 }
 
+// What an evaluation answers, and the operating point that it leaves.
+struct AnswerAndPoint {
+    answer: Answer,
+    point: OperatingPoint,
+}
+
 fn evaluated_answer(d: Mosfet1, v: Voltages, gmin: f64, limiter: bool) -> Answer
     ensures { λ r. ⌜ r ≡ evaluatedAnswerOf d v gmin limiter ⌝ }
 {
@@ -42,28 +48,37 @@ fn evaluated_answer(d: Mosfet1, v: Voltages, gmin: f64, limiter: bool) -> Answer
     bias::channel_answer(card, d.geometry, scaled, v, kept, gmin)
 }
 
-fn evaluated_point(
+// The exponentials of both junctions come first: they rest on the nodes' voltages alone, and the processor goes on with them while
+// the channel waits for its roots.
+fn answer_and_point(
     d: Mosfet1,
     v: Voltages,
     temperature: Kelvin,
     gmin: f64,
-    a: Answer,
-) -> OperatingPoint
-    ensures { λ r. ⌜ r ≡ evaluatedPointOf d v temperature gmin a ⌝ }
+    limiter: bool,
+) -> AnswerAndPoint
+    ensures { λ r. ⌜ (r .answer ≡ evaluatedAnswerOf d v gmin limiter)
+        × (r .point ≡ evaluatedPointOf d v temperature gmin (evaluatedAnswerOf d v gmin limiter)) ⌝ }
 {
-    let geometry = d.geometry;
     let factor = d.scaled.isat_t_factor;
+    let isat_bs = d.geometry.isat_bs * factor;
+    let isat_bd = d.geometry.isat_bd * factor;
     let pol = d.card.polarity;
     let vb = v.vb;
     let vbs = vb - v.vs;
+    let vbd = vb - v.vd;
     let vt = junction::vt(temperature);
-    let bs = bias::junction_stamp(geometry.isat_bs * factor, pol, vbs, vt, gmin);
-    let bd = bias::junction_stamp(geometry.isat_bd * factor, pol, vb - v.vd, vt, gmin);
-    bias::operating_point(pol, a, vbs, bs, bd)
+    let e_bs = junction::junction_exponential(isat_bs, pol * vbs, vt);
+    let e_bd = junction::junction_exponential(isat_bd, pol * vbd, vt);
+    let answer = evaluated_answer(d, v, gmin, limiter);
+    let bs = bias::junction_stamp_at(isat_bs, e_bs, pol, vbs, vt, gmin);
+    let bd = bias::junction_stamp_at(isat_bd, e_bd, pol, vbd, vt, gmin);
+    let point = bias::operating_point(pol, answer, vbs, bs, bd);
+    AnswerAndPoint { answer, point }
 }
 
 // Without the transient flag the last transient evaluation's values stay.
-fn evaluated_charges(d: Mosfet1, v: Voltages, transient: bool, a: Answer) -> Charges
+pub fn evaluated_charges(d: Mosfet1, v: Voltages, transient: bool, a: Answer) -> Charges
     ensures { λ r. ⌜ r ≡ evaluatedChargesOf d v transient a ⌝ }
 {
     if transient {
@@ -78,8 +93,9 @@ pub fn evaluate(d: Mosfet1, v: Voltages, transient: bool, k: Conditions) -> Eval
     ensures { λ r. ⌜ r ≡ evaluatedOf d v transient k ⌝ }
 {
     let disc = k.method;
-    let answer = evaluated_answer(d, v, k.gmin, k.limiter);
-    let point = evaluated_point(d, v, k.temperature, k.gmin, answer);
+    let at = answer_and_point(d, v, k.temperature, k.gmin, k.limiter);
+    let answer = at.answer;
+    let point = at.point;
     let charges = evaluated_charges(d, v, transient, answer);
     let card = d.card;
     let geometry = d.geometry;

@@ -8,22 +8,29 @@ use lib.Dec.{eqb}
 use lib.Ieee.{Float}
 use Rattle.device.specs.Refusals.{Outcome, done, refused}
 use Rattle.device.specs.declared.Mosfet1.{Mosfet1}
+use Rattle.bias.specs.declared.Voltages.{Voltages}
+use Rattle.mosfet1.specs.Steps.{evaluatedChargesOf, evaluatedFromOf, evaluatedOf}
+use Rattle.mosfet1.specs.declared.steps.Conditions.{Conditions}
 use Rattle.mosfet1.specs.declared.steps.Evaluated.{Evaluated}
+use Rattle.rows.specs.Rows.{voltagesOf, evalRows}
+use Rattle.device.proofs.Rows.{unless-either}
 use Rattle.model.specs.Calls.{evalOf, commitOf}
+use Rattle.record.specs.Records.{chargesRecord}
 use Rattle.record.specs.declared.DeviceOutcome.{DeviceOutcome}
 use Rattle.record.specs.declared.DeviceRecord.{DeviceRecord}
-use Rattle.from_record.specs.Devices.{deviceFrom}
+use Rattle.from_record.specs.Devices.{chargesFrom, deviceFrom}
 use Rattle.from_record.specs.Tags.{goodTags}
 use Rattle.record_steps.specs.declared.ConditionsRecord.{ConditionsRecord}
 use Rattle.record_steps.specs.declared.EvaluationOutcome.{EvaluationOutcome}
 use Rattle.record_steps.specs.declared.EvaluationReply.{EvaluationReply}
 use Rattle.record_steps.specs.declared.EvaluationChanges.{EvaluationChanges}
+use Rattle.record_steps.specs.declared.DirectCurrentChanges.{DirectCurrentChanges}
 use Rattle.record_steps.specs.declared.ChangesOrRefusal.{ChangesOrRefusal}
-use Rattle.record_steps.specs.declared.ChangesOrRefusal.the-variants.{Changes, Refusal}
+use Rattle.record_steps.specs.declared.ChangesOrRefusal.the-variants.{Changes, DirectCurrent, Refusal}
 use Rattle.record_steps.specs.declared.CommitChanges.{CommitChanges}
 use Rattle.record_steps.specs.declared.CommitAnswer.{CommitAnswer}
 use Rattle.record_steps.specs.declared.CommitAnswer.the-variants as CommitAnswer
-use Rattle.record_steps.specs.Steps.{goodConditions, conditionsFrom, refusedReply, refusedEvaluation, evaluatedRecord, evaluatedOutcome, evaluationOutcome, evalCall, replyOf, changedRecord, outcomeFrom, evaluatedChanges, evaluationGiven, evaluateOf, committedRecord, commitOutcome, commitCall, advancedRecord, commitGiven, commitRecordOf, commitOutcomeFrom}
+use Rattle.record_steps.specs.Steps.{goodConditions, conditionsFrom, refusedReply, refusedEvaluation, evaluatedRecord, evaluatedOutcome, evaluationOutcome, evalCall, replyOf, changedRecord, directCurrentRecord, outcomeFrom, evaluatedChanges, directCurrentGiven, evaluationGiven, evaluateOf, committedRecord, commitOutcome, commitCall, advancedRecord, commitGiven, commitRecordOf, commitOutcomeFrom}
 
 -- ---- the evaluation
 
@@ -31,16 +38,31 @@ made-either : (r : DeviceRecord) (b : Bool) (c d : ChangesOrRefusal) (o p : Eval
 made-either r true c d o p h k = h
 made-either r false c d o p h k = k
 
-made-given : (r : DeviceRecord) (a : Outcome Evaluated) → outcomeFrom r (evaluationGiven a) ≡ evaluationOutcome r a
-unfolding outcomeFrom evaluationGiven refusedReply evaluatedChanges changedRecord evaluationOutcome evaluatedOutcome evaluatedRecord refusedEvaluation
-made-given r (done e) = refl
-made-given r (refused n) = refl
+-- what an evaluation gives to be stored makes its outcome
+Made : DeviceRecord → Bool → Outcome Evaluated → Type 0
+Made r t a = outcomeFrom r (evaluationGiven t a) ≡ evaluationOutcome r a
+
+-- without the transient flag the device's charges are those of the record, and come back from it as they were
+made-done : (r : DeviceRecord) (v : Voltages) (t : Bool) (k : Conditions) → Made r t (done (evaluatedOf (deviceFrom r) v t k))
+unfolding Made outcomeFrom evaluationGiven evaluatedChanges directCurrentGiven changedRecord directCurrentRecord evaluationOutcome evaluatedOutcome evaluatedRecord evaluatedOf evaluatedFromOf evaluatedChargesOf deviceFrom chargesFrom chargesRecord
+made-done r v true k = refl
+made-done r v false k = refl
+
+made-refused : (r : DeviceRecord) (t : Bool) (n : ℕ) → Made r t (refused n)
+unfolding Made outcomeFrom evaluationGiven refusedReply evaluationOutcome refusedEvaluation
+made-refused r t n = refl
+
+made-given : (r : DeviceRecord) (x : List Float) (t : Bool) (k : Conditions) → Made r t (evalOf (deviceFrom r) x t k)
+unfolding evalOf
+made-given r x t k =
+    let d = deviceFrom r in
+    unless-either (Made r t) (evalRows (d .stage) (d .terminals) x (k .temperature) (k .gmin) (k .method)) refused _ (made-refused r t) (made-done r (voltagesOf x (d .terminals)) t k)
 
 pub evaluation-made : (r : DeviceRecord) (x : List Float) (k : ConditionsRecord) → outcomeFrom r (evaluateOf r x k) ≡ evalCall r x k
-unfolding evaluateOf evalCall outcomeFrom changedRecord refusedReply refusedEvaluation
+unfolding evaluateOf evalCall outcomeFrom changedRecord refusedReply refusedEvaluation Made
 evaluation-made r x k =
     made-either r (goodTags r) _ _ _ _
-    (made-either r (goodConditions k) _ _ _ _ (made-given r (evalOf (deviceFrom r) x (eqb (k .transient) 1) (conditionsFrom k))) refl)
+    (made-either r (goodConditions k) _ _ _ _ (made-given r x (eqb (k .transient) 1) (conditionsFrom k)) refl)
     refl
 
 pub evaluation-outcome : (r : DeviceRecord) (x : List Float) (k : ConditionsRecord) (c : ChangesOrRefusal) → c ≡ evaluateOf r x k → outcomeFrom r c ≡ evalCall r x k
@@ -54,6 +76,14 @@ reply-of-changes r c o e = ap replyOf e
 pub device-of-changes : (r : DeviceRecord) (c : EvaluationChanges) (o : EvaluationOutcome) → outcomeFrom r (Changes c) ≡ o → changedRecord r c ≡ o .device
 unfolding outcomeFrom
 device-of-changes r c o e = ap (λ (p : EvaluationOutcome). p .device) e
+
+pub reply-of-direct-current : (r : DeviceRecord) (c : DirectCurrentChanges) (o : EvaluationOutcome) → outcomeFrom r (DirectCurrent c) ≡ o → c .reply ≡ replyOf o
+unfolding outcomeFrom replyOf
+reply-of-direct-current r c o e = ap replyOf e
+
+pub device-of-direct-current : (r : DeviceRecord) (c : DirectCurrentChanges) (o : EvaluationOutcome) → outcomeFrom r (DirectCurrent c) ≡ o → directCurrentRecord r c ≡ o .device
+unfolding outcomeFrom
+device-of-direct-current r c o e = ap (λ (p : EvaluationOutcome). p .device) e
 
 pub reply-of-refusal : (r : DeviceRecord) (y : EvaluationReply) (o : EvaluationOutcome) → outcomeFrom r (Refusal y) ≡ o → y ≡ replyOf o
 unfolding outcomeFrom replyOf

@@ -1,14 +1,16 @@
 -- Evaluation and commit of a device that is a record: a record with an unknown tag is refused under 100, any other as its device is.
 -- What a call does not change stays in the record as it was handed in, unused fields too.
 use Prim.Native.Nat.{ℕ}
-use mathlib.Core.Bool.{Bool, cond, _&&_}
+use mathlib.Core.Bool.{Bool, true, cond, _&&_}
 use mathlib.Core.List.{List}
 use lib.Dec.{eqb, leb}
 use lib.Ieee.{Float}
 use Rattle.exact.specs.Float64.{+0}
 use Rattle.bias.specs.declared.Answer.{Answer}
+use Rattle.mosfet1.specs.Steps.{evaluatedChargesOf}
 use Rattle.mosfet1.specs.declared.steps.Conditions.{Conditions}
 use Rattle.mosfet1.specs.declared.steps.Evaluated.{Evaluated}
+use Rattle.rows.specs.Rows.{voltagesOf}
 use Rattle.model.specs.Calls.{evalOf, commitOf}
 use Rattle.device.specs.Refusals.{Outcome, done, refused}
 use Rattle.device.specs.declared.Mosfet1.{Mosfet1}
@@ -22,8 +24,9 @@ use Rattle.record_steps.specs.declared.ConditionsRecord.{ConditionsRecor
 use Rattle.record_steps.specs.declared.EvaluationOutcome.{EvaluationOutcome}
 use Rattle.record_steps.specs.declared.EvaluationReply.{EvaluationReply}
 use Rattle.record_steps.specs.declared.EvaluationChanges.{EvaluationChanges}
+use Rattle.record_steps.specs.declared.DirectCurrentChanges.{DirectCurrentChanges}
 use Rattle.record_steps.specs.declared.ChangesOrRefusal.{ChangesOrRefusal}
-use Rattle.record_steps.specs.declared.ChangesOrRefusal.the-variants.{Changes, Refusal}
+use Rattle.record_steps.specs.declared.ChangesOrRefusal.the-variants.{Changes, DirectCurrent, Refusal}
 use Rattle.record_steps.specs.declared.CommitChanges.{CommitChanges}
 use Rattle.record_steps.specs.declared.CommitAnswer.{CommitAnswer}
 use Rattle.record_steps.specs.declared.CommitAnswer.the-variants as CommitAnswer
@@ -99,9 +102,25 @@ changedRecord r c =
       stage = c .stage;
     }
 
+-- the record with the changes of an evaluation without the transient flag: the charges stay, and the device is evaluated
+unfoldable pub directCurrentRecord : DeviceRecord → DirectCurrentChanges → DeviceRecord
+directCurrentRecord r c =
+    record {
+      card = r .card;
+      geometry = r .geometry;
+      scaled = r .scaled;
+      terminals = r .terminals;
+      point = c .point;
+      charges = r .charges;
+      histories = r .histories;
+      method = c .method;
+      stage = 5;
+    }
+
 -- the outcome of a call, from the record handed in and what the call gives to be stored
 unfoldable pub outcomeFrom : DeviceRecord → ChangesOrRefusal → EvaluationOutcome
 outcomeFrom r (Changes c) = record { refusal = c .reply .refusal; answer = c .reply .answer; device = changedRecord r c }
+outcomeFrom r (DirectCurrent c) = record { refusal = c .reply .refusal; answer = c .reply .answer; device = directCurrentRecord r c }
 outcomeFrom r (Refusal y) = record { refusal = y .refusal; answer = y .answer; device = r }
 
 -- what an evaluation gives to be stored: the reply with the parts that it changes, or, where it is refused, the reply alone
@@ -115,14 +134,44 @@ evaluatedChanges e =
       stage = stageTag (e .device .stage);
     }
 
-unfoldable pub evaluationGiven : Outcome Evaluated → ChangesOrRefusal
-evaluationGiven (done e) = Changes (evaluatedChanges e)
-evaluationGiven (refused n) = Refusal (refusedReply n)
+unfoldable pub directCurrentGiven : Evaluated → DirectCurrentChanges
+directCurrentGiven e =
+    record {
+      reply = record { refusal = 0; answer = answerRecord (e .answer) };
+      point = pointRecord (e .device .point);
+      method = methodRecord (e .device .disc);
+    }
+
+unfoldable pub evaluationGiven : Bool → Outcome Evaluated → ChangesOrRefusal
+evaluationGiven transient (done e) = cond transient (Changes (evaluatedChanges e)) (DirectCurrent (directCurrentGiven e))
+evaluationGiven transient (refused n) = Refusal (refusedReply n)
+
+-- an evaluation without the transient flag with the charges of one with it: d is the device before, x the lent list
+unfoldable pub chargedOf : Mosfet1 → List Float → Evaluated → Evaluated
+chargedOf d x e =
+    record {
+      device = record {
+        card = e .device .card;
+        geometry = e .device .geometry;
+        scaled = e .device .scaled;
+        terminals = e .device .terminals;
+        point = e .device .point;
+        charges = evaluatedChargesOf d (voltagesOf x (d .terminals)) true (e .answer);
+        histories = e .device .histories;
+        disc = e .device .disc;
+        stage = e .device .stage;
+      };
+      answer = e .answer;
+    }
+
+unfoldable pub withCharges : Bool → Mosfet1 → List Float → Outcome Evaluated → Outcome Evaluated
+withCharges transient d x (done e) = done (cond transient (chargedOf d x e) e)
+withCharges transient d x (refused n) = refused n
 
 unfoldable pub evaluateOf : DeviceRecord → List Float → ConditionsRecord → ChangesOrRefusal
 evaluateOf r x k =
     cond (goodTags r)
-    (cond (goodConditions k) (evaluationGiven (evalOf (deviceFrom r) x (eqb (k .transient) 1) (conditionsFrom k))) (Refusal (refusedReply 100)))
+    (cond (goodConditions k) (evaluationGiven (eqb (k .transient) 1) (evalOf (deviceFrom r) x (eqb (k .transient) 1) (conditionsFrom k))) (Refusal (refusedReply 100)))
     (Refusal (refusedReply 100))
 
 -- the record after a commit that leaves the device d

@@ -1,5 +1,6 @@
 // Evaluation and commit of a device that is a record.
 use bias::Answer;
+use device::Mosfet1;
 use model::calls::Commit;
 use model::calls::Evaluation;
 use mosfet1::steps::Conditions;
@@ -12,8 +13,8 @@ use record::PointRecord;
 use temperature::Kelvin;
 ghost use mathlib.Core.Path.{_≡_};
 ghost use Rattle.model.specs.Calls.{outcomeOfEvaluation, outcomeOfCommit};
-ghost use Rattle.record_steps.specs.Steps.{goodConditions, conditionsFrom, answerRecord, refusedReply, evaluatedChanges, evaluationGiven, evaluateOf, commitGiven, commitRecordOf};
-ghost use Rattle.record_steps.specs.declared.ChangesOrRefusal.the-variants.{Changes};
+ghost use Rattle.record_steps.specs.Steps.{goodConditions, conditionsFrom, answerRecord, refusedReply, evaluatedChanges, directCurrentGiven, evaluationGiven, chargedOf, withCharges, evaluateOf, commitGiven, commitRecordOf};
+ghost use Rattle.record_steps.specs.declared.ChangesOrRefusal.the-variants.{Changes, DirectCurrent};
 
 // What an evaluation is handed besides the voltages. The limiter and the transient flag are 0 or 1.
 #[repr(C)]
@@ -61,9 +62,17 @@ pub struct EvaluationChanges {
     pub stage: u64,
 }
 
-// A refused evaluation changes no part of the record: there is its reply alone, so that nobody has to store what did not change.
+// The same without the transient flag: the charges stay as they are, and the stage is known.
+pub struct DirectCurrentChanges {
+    pub reply: EvaluationReply,
+    pub point: PointRecord,
+    pub method: MethodRecord,
+}
+
+// A refused evaluation changes no part of the record: there is its reply alone. So nobody has to store what did not change.
 pub enum ChangesOrRefusal {
     Changes(EvaluationChanges),
+    DirectCurrent(DirectCurrentChanges),
     Refusal(EvaluationReply),
 }
 
@@ -160,11 +169,51 @@ fn accepted_evaluation(e: Evaluated) -> ChangesOrRefusal
     ChangesOrRefusal::Changes(changes)
 }
 
-fn evaluation_changes(a: Evaluation) -> ChangesOrRefusal
-    ensures { λ c. ⌜ c ≡ evaluationGiven (outcomeOfEvaluation a) ⌝ }
+// An evaluation without the transient flag, and the charges of one with it. So the charges are worked out where they are wanted, and
+// nothing that they need is held ready where they are not.
+fn accepted_transient(e: Evaluated, d: Mosfet1, x: &[f64]) -> ChangesOrRefusal
+    ensures { λ c. ⌜ c ≡ Changes (evaluatedChanges (chargedOf d (now (x .entry)) e)) ⌝ }
+{
+    let answer = e.answer;
+    let v = rows::voltages(x, d.terminals);
+    let charges = mosfet1::steps::evaluated_charges(d, v, true, answer);
+    let mut device = e.device;
+    device.charges = charges;
+    let charged = Evaluated { device, answer };
+    accepted_evaluation(charged)
+}
+
+fn accepted_direct_current(e: Evaluated) -> ChangesOrRefusal
+    ensures { λ c. ⌜ c ≡ DirectCurrent (directCurrentGiven e) ⌝ }
+{
+    let a = e.answer;
+    let d = e.device;
+    let point = d.point;
+    let disc = d.disc;
+    let reply = EvaluationReply {
+        refusal: 0,
+        answer: answer_record(a),
+    };
+    let changes = DirectCurrentChanges {
+        reply,
+        point: record::point_record(point),
+        method: record::method_record(disc),
+    };
+    ChangesOrRefusal::DirectCurrent(changes)
+}
+
+// a is the evaluation without the transient flag.
+fn evaluation_changes(a: Evaluation, transient: bool, d: Mosfet1, x: &[f64]) -> ChangesOrRefusal
+    ensures { λ c. ⌜ c ≡ evaluationGiven transient (withCharges transient d (now (x .entry)) (outcomeOfEvaluation a)) ⌝ }
 {
     match a {
-        Evaluation::Done(e) => accepted_evaluation(e),
+        Evaluation::Done(e) => {
+            if transient {
+                accepted_transient(e, d, x)
+            } else {
+                accepted_direct_current(e)
+            }
+        }
         Evaluation::Refused(n) => ChangesOrRefusal::Refusal(refused_reply(record::wide(n))),
     }
 }
@@ -173,7 +222,7 @@ fn evaluation_changes(a: Evaluation) -> ChangesOrRefusal
 pub fn evaluate(r: DeviceRecord, x: &[f64], k: ConditionsRecord) -> ChangesOrRefusal
     ensures { λ c. ⌜ c ≡ evaluateOf r (now (x .entry)) k ⌝ }
 {
-    if !from_record::good_tags(r) {
+    if !from_record::good_tags_at_once(r) {
         return ChangesOrRefusal::Refusal(refused_reply(100));
     }
     if !good_conditions(k) {
@@ -182,8 +231,8 @@ pub fn evaluate(r: DeviceRecord, x: &[f64], k: ConditionsRecord) -> ChangesOrRef
     let d = from_record::device_from(r);
     let conditions = conditions_from(k);
     let transient = k.transient == 1;
-    let a = model::calls::eval(d, x, transient, conditions);
-    evaluation_changes(a)
+    let a = model::calls::eval(d, x, false, conditions);
+    evaluation_changes(a, transient, d, x)
 }
 
 fn commit_changes(a: Commit) -> CommitAnswer

@@ -1,18 +1,15 @@
-use Rattle.junction.specs.Junction.{bulkJunctionOf, shockleyOf}
-use borrow.Author.Needs.{needs}
+use Rattle.junction.proofs.OverExponential.{over-exponential}
 use Rattle.junction.proofs.bulk_junction.Statement.{statement}
 use Rattle.junction.proofs.bulk_junction.Tie as tie
 
+junction-exponential-requires : tie.Need-junction-exponential-requires
+junction-exponential-requires c κs = tt
+
+junction-at-requires : tie.Need-junction-at-requires
+junction-at-requires c κs = tt
+
 returns : tie.Need-returns
-unfolding bulkJunctionOf shockleyOf
-returns c = rw (c .if1 .taken)
-
-exp-requires : tie.Need-exp-requires
-exp-requires c κs = search needs
-
-returns-2 : tie.Need-returns-2
-unfolding bulkJunctionOf shockleyOf
-returns-2 c = rw (c .before .if1 .left, c .exp .ensures)
+returns c = rw (over-exponential _ _ _ _, c .junction-at .ensures, c .before .junction-exponential .ensures)
 
 pub bulk-junction-spec : {M : Type 1} → statement M
-bulk-junction-spec = tie.close (tie.spec returns exp-requires returns-2)
+bulk-junction-spec = tie.close (tie.spec junction-exponential-requires junction-at-requires returns)
