@@ -7,6 +7,7 @@
 use record::DeviceOutcome;
 use record::DeviceRecord;
 use record_card::KeysOutcome;
+use record_resolved::ResolveOutcome;
 use record_setup::CountOutcome;
 use record_setup::NodesRecord;
 use record_small_signal::NoiseOutcome;
@@ -24,6 +25,9 @@ ghost use Rattle.record_setup.specs.Setup.{scalingCall, bindingCall, extraNodes
 ghost use Rattle.record_steps.specs.Steps.{evalCall, replyOf, commitCall};
 ghost use Rattle.record_small_signal.specs.SmallSignal.{noiseCall, reactancesCall};
 ghost use Rattle.record_loading.specs.Load.{loadCall, loadedSide, loadedMatrix};
+ghost use Rattle.device.specs.Refusals.{number, valuesOr};
+ghost use Rattle.resolve.specs.Resolve.{noCells};
+ghost use Rattle.record_resolved.specs.Resolved.{resolveCall, loadResolvedCall, resolvedSide, resolvedMatrix};
 ghost use Rattle.interface.specs.Interface.{interfaceVersion, deviceSize};
 
 // What the header's inline check holds a caller's object to.
@@ -236,4 +240,35 @@ pub extern "C" fn mivtolgya_commit_in_place(device: &mut DeviceRecord, x: &[f64]
         }
         CommitAnswer::Refusal(number) => number,
     }
+}
+
+#[no_mangle]
+pub extern "C" fn mivtolgya_resolve(
+    device: DeviceRecord,
+    columns: &[u32],
+    offsets: &[usize],
+    lengths: &[usize],
+) -> ResolveOutcome
+    ensures { λ o. ⌜ (o .refusal ≡ number (resolveCall device (record { columns = now (columns .entry); offsets = now (offsets .entry); lengths = now (lengths .entry) })))
+        × (o .cells ≡ valuesOr noCells (resolveCall device (record { columns = now (columns .entry); offsets = now (offsets .entry); lengths = now (lengths .entry) }))) ⌝ }
+{
+    record_resolved::resolve(device, columns, offsets, lengths)
+}
+
+// A load by the cells that `mivtolgya_resolve` answered. The record and the cells are only read.
+#[no_mangle]
+pub extern "C" fn mivtolgya_load_resolved(
+    device: &DeviceRecord,
+    transient: u64,
+    alpha: f64,
+    cells: &[usize; 37],
+    rhs: &mut [f64],
+    values: &mut [f64],
+) -> u64
+    ensures { λ o. ⌜ (o ≡ loadResolvedCall (now (device .entry)) transient alpha (now (cells .entry)) (now (rhs .entry)) (now (values .entry)))
+        × ((now (rhs .exit) ≡ resolvedSide (now (device .entry)) transient alpha (now (cells .entry)) (now (rhs .entry)) (now (values .entry)))
+        × (now (values .exit) ≡ resolvedMatrix (now (device .entry)) transient alpha (now (cells .entry)) (now (rhs .entry)) (now (values .entry)))) ⌝ }
+{
+    let r = *device;
+    record_resolved::load_resolved(r, transient, alpha, cells, rhs, values)
 }
