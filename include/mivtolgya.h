@@ -599,8 +599,8 @@ static inline const char *mivtolgya_refusal_text(uint64_t number) {
     case MIVTOLGYA_REFUSED_VOLTAGE: return "a voltage is not finite or beyond 1000 V";
     case MIVTOLGYA_REFUSED_STAGE: return "the call comes too early or too late";
     case MIVTOLGYA_REFUSED_STEP: return "a step or alpha is out of range";
-    case MIVTOLGYA_REFUSED_PATTERN: return "the matrix is not laid out as it must be";
-    case MIVTOLGYA_REFUSED_MISSING_CELL: return "the matrix has no place for a value";
+    case MIVTOLGYA_REFUSED_PATTERN: return "the matrix is not laid out as it must be, or not as it was resolved";
+    case MIVTOLGYA_REFUSED_MISSING_CELL: return "the matrix has no place for a value, or the cells are another binding's";
     case MIVTOLGYA_REFUSED_TAG: return "an unknown tag, or memory that is no device";
     case MIVTOLGYA_OTHER_VERSION: return "the archive has another interface";
     case MIVTOLGYA_OTHER_RECORD: return "the archive's device has another size";
