@@ -10,26 +10,26 @@ use std::{env, fs, process};
 const INVERTERS: usize = 500;
 const DEVICES: usize = 2 * INVERTERS;
 const STEP: f64 = 1e-10;
-const SAMPLES: usize = 200;
+const PERIOD: f64 = 20e-9;
 const ROUNDS: usize = 2;
 
 fn assigned(keys: &[(&str, f64)]) -> String {
     keys.iter().fold(String::new(), |text, (key, value)| format!("{text} {key}={value:e}"))
 }
 
-/// Inverters side by side at one pulsed input, steps of at most STEP over twenty edges; the voltages go to `points`.
+/// Inverters side by side at one pulsed input, steps of at most STEP over ten periods; the voltages go to `points`.
 fn netlist(case: &Case, points: &str) -> String {
     let mut text = format!("inverters\n.options temp={} tnom=27 gmin={GMIN:e}\n", KELVIN - 273.15);
     for (name, kind, pmos) in [("n", "nmos", false), ("p", "pmos", true)] {
         writeln!(text, ".model {name} {kind} level=1{}", assigned(&Case { pmos, ..*case }.keys())).unwrap();
     }
-    text += "vdd vdd 0 5\nvin in 0 pulse(0 5 0 5n 5n 5n 20n)\n";
+    text += &format!("vdd vdd 0 5\nvin in 0 pulse(0 5 0 5n 5n 5n {PERIOD:e})\n");
     let sizes = assigned(&GEOMETRY);
     for i in 0..INVERTERS {
         writeln!(text, "mn{i} o{i} in 0 0 n{sizes}\nmp{i} o{i} in vdd vdd p{sizes}").unwrap();
     }
-    text += &format!(".save v(in) v(o0)\n.control\ntran {STEP:e} 200n 0 {STEP:e}\nrusage all\n");
-    text + &format!("set filetype=ascii\nwrdata {points} v(in) v(o0)\nquit\n.endc\n.end\n")
+    text += &format!(".save v(in) v(o0)\n.control\ntran {STEP:e} {:e} 0 {STEP:e}\nrusage all\n", 10.0 * PERIOD);
+    text + &format!("wrdata {points} v(in) v(o0)\nquit\n.endc\n.end\n")
 }
 
 /// The number behind `name =` in what ngspice wrote.
@@ -37,11 +37,25 @@ fn said(text: &str, name: &str) -> Option<f64> {
     text.lines().find_map(|line| line.strip_prefix(name)?.trim().strip_prefix('=')?.trim().parse().ok())
 }
 
+/// Input and output voltages over two periods, from lines of time, input, time, output.
+fn voltages(table: &str) -> Option<Vec<[f64; 2]>> {
+    let numbers = |line: &str| line.split_whitespace().map(|word| word.parse().ok()).collect::<Option<Vec<f64>>>();
+    let mut found = Vec::new();
+    for line in table.lines() {
+        let row = numbers(line)?;
+        if *row.first()? < 2.0 * PERIOD {
+            found.push([*row.get(1)?, *row.get(3)?]);
+        }
+    }
+    (!found.is_empty()).then_some(found)
+}
+
 /// What a run of ngspice took for a device and an iteration in nanoseconds, and voltages of input and output on its way.
 fn run(case: &Case) -> Option<(f64, Vec<[f64; 2]>)> {
     let folder = env::temp_dir().join(format!("mivtolgya-bench-{}", process::id()));
     fs::create_dir_all(&folder).ok()?;
-    let (deck, points) = (folder.join("deck.cir"), folder.join("points"));
+    // ngspice would give a name without an ending one of its own
+    let (deck, points) = (folder.join("deck.cir"), folder.join("points.data"));
     fs::write(&deck, netlist(case, points.to_str()?)).ok()?;
     let mut least = f64::INFINITY;
     for _ in 0..ROUNDS {
@@ -50,11 +64,9 @@ fn run(case: &Case) -> Option<(f64, Vec<[f64; 2]>)> {
         let (seconds, iterations) = (said(&text, "Transient load time")?, said(&text, "Transient iterations")?);
         least = least.min(seconds * 1e9 / iterations / DEVICES as f64);
     }
-    let table = fs::read_to_string(points.with_extension("data")).or_else(|_| fs::read_to_string(&points)).ok()?;
+    let table = fs::read_to_string(&points).ok()?;
     fs::remove_dir_all(&folder).ok()?;
-    let rows = table.lines().map(|line| line.split_whitespace().map(|w| w.parse().ok()).collect::<Option<Vec<f64>>>());
-    let all: Vec<[f64; 2]> = rows.map(|row| row.and_then(|r| Some([*r.get(1)?, *r.get(3)?]))).collect::<Option<_>>()?;
-    Some((least, (0..SAMPLES).map(|i| all[i * all.len() / SAMPLES]).collect()))
+    Some((least, voltages(&table)?))
 }
 
 /// Rows: the supply, the input, then the outputs. Every device has all pairs of its rows.
@@ -64,15 +76,21 @@ fn columns() -> Vec<Vec<u32>> {
     outer.chain((2..rows).map(|out| vec![0, 1, out])).collect()
 }
 
-/// Nanoseconds for a device and an iteration: cleared, evaluated and loaded device by device.
+/// Nanoseconds for a device and an iteration, two iterations at each point: cleared, evaluated and loaded device by device.
 fn timed<M: Model>(case: &Case, points: &[[f64; 2]]) -> f64 {
     let pmos = Case { pmos: true, ..*case };
     let n: Vec<(&Case, Terminals)> = (0..INVERTERS).map(|i| (case, [Some(i + 2), Some(1), None, None])).collect();
     let p: Vec<(&Case, Terminals)> = (0..INVERTERS).map(|i| (&pmos, [Some(i + 2), Some(1), Some(0), Some(0)])).collect();
     let mut system = System::<M>::new(&columns(), &[n, p].concat());
-    let bias = |[input, output]: &[f64; 2]| [&[5.0, *input], &[*output; INVERTERS][..]].concat();
-    let xs: Vec<Vec<f64>> = points.iter().map(bias).collect();
-    best(20, xs.len() * DEVICES, || xs.iter().for_each(|x| system.iterate(x)))
+    let mut x = vec![5.0; INVERTERS + 2];
+    best(10, 2 * points.len() * DEVICES, || {
+        for [input, output] in points {
+            x[1] = *input;
+            x[2..].fill(*output);
+            system.iterate(&x);
+            system.iterate(&x);
+        }
+    })
 }
 
 pub fn table() {
