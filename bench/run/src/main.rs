@@ -6,7 +6,7 @@ mod functions;
 mod spice;
 
 use cases::{columns, points, Case, CASES, NODES, POINTS};
-use devices::{port, rust_c, rust_port, Model, System, Terminals};
+use devices::{port, rust_c, rust_port, Columns, Model, System, Terminals};
 use std::hint::black_box;
 use std::time::Instant;
 
@@ -64,14 +64,14 @@ fn same_bits(a: &[f64], b: &[f64]) -> bool {
 }
 
 /// Both slices of one side are those of the Rust with the port's functions, bit for bit, at each point.
-fn agree<M: Model>(case: &Case, xs: &[Vec<f64>]) {
-    let (mut a, mut b) = (alone::<M>(case, NODES), alone::<rust_port::Resolved>(case, NODES));
+pub fn agree<M: Model>(columns: &Columns, devices: &[(&Case, Terminals)], xs: &[Vec<f64>]) {
+    let (mut a, mut b) = (System::<M>::new(columns, devices), System::<rust_port::Resolved>::new(columns, devices));
     for x in xs {
         a.eval(x);
         b.eval(x);
         a.load();
         b.load();
-        assert!(same_bits(&a.rhs, &b.rhs) && same_bits(&a.values(), &b.values()), "{}: other bits", case.name);
+        assert!(same_bits(&a.rhs, &b.rhs) && same_bits(&a.values(), &b.values()), "{}: other bits", devices[0].0.name);
     }
 }
 
@@ -80,8 +80,8 @@ fn loads() {
     println!("| | port | Rust, C's functions | Rust, the port's functions | port to Rust | port to Rust with the port's functions |");
     println!("|---|---|---|---|---|---|");
     for case in &CASES {
-        agree::<port::Searching>(case, &xs);
-        agree::<port::Resolved>(case, &xs);
+        agree::<port::Searching>(&columns(NODES), &[(case, TERMINALS)], &xs);
+        agree::<port::Resolved>(&columns(NODES), &[(case, TERMINALS)], &xs);
         let round = || {
             let port = [timed::<port::Searching>(case, &xs), timed::<port::Resolved>(case, &xs)];
             [port[0], port[1], timed::<rust_c::Resolved>(case, &xs), timed::<rust_port::Resolved>(case, &xs)]

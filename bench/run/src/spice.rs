@@ -1,8 +1,8 @@
 //! ngspice as a peer. It runs CMOS inverters of the same card and geometry and says itself what loading the matrix took; the port and
 //! the Rust then evaluate and load as many devices in one matrix, at the voltages that ngspice found. Without ngspice a line says so.
-use crate::best;
 use crate::cases::{Case, CASES, GEOMETRY, GMIN, KELVIN};
 use crate::devices::{port, rust_c, Model, System, Terminals};
+use crate::{agree, best};
 use std::fmt::Write as _;
 use std::process::Command;
 use std::{env, fs, process};
@@ -76,21 +76,40 @@ fn columns() -> Vec<Vec<u32>> {
     outer.chain((2..rows).map(|out| vec![0, 1, out])).collect()
 }
 
+/// All n-channel devices, then all p-channel ones, as ngspice goes through them.
+fn devices<'a>(n: &'a Case, p: &'a Case) -> Vec<(&'a Case, Terminals)> {
+    let lower = (0..INVERTERS).map(|i| (n, [Some(i + 2), Some(1), None, None]));
+    let upper = (0..INVERTERS).map(|i| (p, [Some(i + 2), Some(1), Some(0), Some(0)]));
+    lower.chain(upper).collect()
+}
+
+fn bias(x: &mut [f64], [input, output]: [f64; 2]) {
+    x[0] = 5.0;
+    x[1] = input;
+    x[2..].fill(output);
+}
+
 /// Nanoseconds for a device and an iteration, two iterations at each point: cleared, evaluated and loaded device by device.
-fn timed<M: Model>(case: &Case, points: &[[f64; 2]]) -> f64 {
-    let pmos = Case { pmos: true, ..*case };
-    let n: Vec<(&Case, Terminals)> = (0..INVERTERS).map(|i| (case, [Some(i + 2), Some(1), None, None])).collect();
-    let p: Vec<(&Case, Terminals)> = (0..INVERTERS).map(|i| (&pmos, [Some(i + 2), Some(1), Some(0), Some(0)])).collect();
-    let mut system = System::<M>::new(&columns(), &[n, p].concat());
-    let mut x = vec![5.0; INVERTERS + 2];
+fn timed<M: Model>(all: &[(&Case, Terminals)], points: &[[f64; 2]]) -> f64 {
+    let mut system = System::<M>::new(&columns(), all);
+    let mut x = vec![0.0; INVERTERS + 2];
     best(10, 2 * points.len() * DEVICES, || {
-        for [input, output] in points {
-            x[1] = *input;
-            x[2..].fill(*output);
+        for point in points {
+            bias(&mut x, *point);
             system.iterate(&x);
             system.iterate(&x);
         }
     })
+}
+
+/// Every tenth point, in full.
+fn some_points(points: &[[f64; 2]]) -> Vec<Vec<f64>> {
+    let full = |point: &[f64; 2]| {
+        let mut x = vec![0.0; INVERTERS + 2];
+        bias(&mut x, *point);
+        x
+    };
+    points.iter().step_by(10).map(full).collect()
 }
 
 pub fn table() {
@@ -108,7 +127,10 @@ pub fn table() {
             println!("\nngspice did not say what its load took: {} was left out.", case.name);
             continue;
         };
-        let (p, c) = (timed::<port::Resolved>(&case, &points), timed::<rust_c::Resolved>(&case, &points));
+        let pmos = Case { pmos: true, ..case };
+        let all = devices(&case, &pmos);
+        agree::<port::Resolved>(&columns(), &all, &some_points(&points));
+        let (p, c) = (timed::<port::Resolved>(&all, &points), timed::<rust_c::Resolved>(&all, &points));
         println!("| {} | {spice:.0} ns | {p:.0} ns | {c:.0} ns | {:.1} | {:.1} |", case.name, p / spice, p / c);
     }
 }
