@@ -2,7 +2,8 @@
 //!
 //! Each call's function goes through its rows in the order of their numbers, so that the lowest that applies is the one answered. A row
 //! that speaks of something that does not exist yet does not apply. Of the Rust it takes only what the paper points to: the `MOSFET`
-//! list, `scaled_phi` and `scaled_junction_potential`, and the device's nodes, cells and capacitances.
+//! list, `scaled_phi` and `scaled_junction_potential`, and the device's nodes, cells and capacitances. The rows of a lookup of cells
+//! and of a load by them are not the paper's but those of docs/USING.md.
 
 use crate::device::{Discretisation, NodeId};
 use crate::mosfet1::inside::View;
