@@ -76,6 +76,11 @@ def tags():
     return found
 
 
+def marks():
+    """The numbers of a place that is skipped, ground's, and of one that is missing."""
+    return {n: int(k) for n, k in re.findall(r"^(skipped|missing)Number = (\d+)", code("crates/places/specs/Places.antt"), re.M)}
+
+
 # the definitions that list a call's rows
 ROWS = {
     "card": ["entries/specs/Entries keyRows", "card/specs/Card cardRows"],

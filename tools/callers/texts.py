@@ -60,8 +60,7 @@ def check_records(all_records):
 
 def check_marks():
     """The two numbers that stand in place of a place, in header and wrapper, are the sources'."""
-    marks = re.findall(r"^const (SKIPPED|MISSING): usize = (\d+);", read("crates/resolve/src/lib.rt"), re.M)
-    same("marks of the sources", {n: int(k) for n, k in marks}, {"SKIPPED": 2**64 - 1, "MISSING": 2**64 - 2})
+    same("marks of the sources", sources.marks(), {"skipped": 2**64 - 1, "missing": 2**64 - 2})
     header = dict(re.findall(r"#define MIVTOLGYA_(CELL_\w+) (.+)", read(HEADER)))
     same("marks of the header", header, {"CELL_GROUND": "SIZE_MAX", "CELL_ABSENT": "(SIZE_MAX - 1)"})
     wrapper = dict(re.findall(r"pub const (CELL_\w+): usize = (.+);", read(RECORDS)))
