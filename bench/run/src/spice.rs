@@ -11,7 +11,7 @@ const INVERTERS: usize = 500;
 const DEVICES: usize = 2 * INVERTERS;
 const STEP: f64 = 1e-10;
 const PERIOD: f64 = 20e-9;
-const ROUNDS: usize = 2;
+const ROUNDS: usize = 5;
 
 fn assigned(keys: &[(&str, f64)]) -> String {
     keys.iter().fold(String::new(), |text, (key, value)| format!("{text} {key}={value:e}"))
