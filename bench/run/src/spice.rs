@@ -11,13 +11,15 @@ const INVERTERS: usize = 500;
 const DEVICES: usize = 2 * INVERTERS;
 const STEP: f64 = 1e-10;
 const PERIOD: f64 = 20e-9;
-const ROUNDS: usize = 5;
+// ngspice adds up differences of a clock of whole milliseconds, so a run is long
+const PERIODS: f64 = 20.0;
+const ROUNDS: usize = 3;
 
 fn assigned(keys: &[(&str, f64)]) -> String {
     keys.iter().fold(String::new(), |text, (key, value)| format!("{text} {key}={value:e}"))
 }
 
-/// Inverters side by side at one pulsed input, steps of at most STEP over ten periods; the voltages go to `points`.
+/// Inverters side by side at one pulsed input, steps of at most STEP over many periods; the voltages go to `points`.
 fn netlist(case: &Case, points: &str) -> String {
     let mut text = format!("inverters\n.options temp={} tnom=27 gmin={GMIN:e}\n", KELVIN - 273.15);
     for (name, kind, pmos) in [("n", "nmos", false), ("p", "pmos", true)] {
@@ -28,7 +30,7 @@ fn netlist(case: &Case, points: &str) -> String {
     for i in 0..INVERTERS {
         writeln!(text, "mn{i} o{i} in 0 0 n{sizes}\nmp{i} o{i} in vdd vdd p{sizes}").unwrap();
     }
-    text += &format!(".save v(in) v(o0)\n.control\ntran {STEP:e} {:e} 0 {STEP:e}\nrusage all\n", 10.0 * PERIOD);
+    text += &format!(".save v(in) v(o0)\n.control\ntran {STEP:e} {:e} 0 {STEP:e}\nrusage all\n", PERIODS * PERIOD);
     text + &format!("wrdata {points} v(in) v(o0)\nquit\n.endc\n.end\n")
 }
 
