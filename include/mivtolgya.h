@@ -331,8 +331,8 @@ typedef struct {
     mivtolgya_reactance bd;
 } mivtolgya_reactances_outcome;
 
-/* Where the cells of a bound device lie in a matrix, as mivtolgya_resolve answers it. Hold it beside the device, one for each; write
- * none of it. It is made for the nodes of one binding and for one pattern:
+/* Where the cells of a bound device lie in a matrix, as mivtolgya_resolve answers it. Hold it beside the device and write none of it.
+ * It is made for the six nodes of a binding and for one pattern:
  * nodes: the rows of the outer drain, outer source, drain, gate, source and bulk, MIVTOLGYA_CELL_GROUND for ground.
  * rows, values: how many rows and how many values the pattern has.
  * places: where the values lie that every load adds to, 24 of them, some of them equal. With d, g, s, b for the inner drain, gate,
