@@ -85,7 +85,7 @@ fn answer(runner: &mut Runner, words: &[&[u8]]) -> Option<String> {
         }
         [b"resolve", columns, rows] => runner.resolve(list(columns, column)?, list(rows, pair)?),
         [b"loadresolved", kind, rhs, values] => {
-            runner.load_resolved(load_kind(kind)?, list(rhs, number)?, list(values, number)?)
+            runner.load_resolved(load_kind(kind)?, list(rhs, number)?, list(values, number)?)?
         }
         [b"commit", x] => runner.commit(&list(x, number)?),
         [b"noise", kelvin, freq] => runner.noise(number(kelvin)?, number(freq)?),

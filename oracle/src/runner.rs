@@ -14,7 +14,7 @@ pub struct Runner {
     device: Option<Mosfet1>,
     stage: Stage,
     /// The cells of the last accepted lookup, and the pattern that they were looked up in.
-    cells: Cells,
+    cells: Option<Cells>,
     pattern: Matrix,
 }
 
@@ -46,7 +46,7 @@ fn branch(pos: NodeId, neg: NodeId, value: f64) -> String {
 
 impl Runner {
     pub fn new() -> Runner {
-        Runner { device: None, stage: Stage::NoDevice, cells: Cells::default(), pattern: Matrix::default() }
+        Runner { device: None, stage: Stage::NoDevice, cells: None, pattern: Matrix::default() }
     }
 
     fn view(&self) -> Option<View> {
@@ -129,18 +129,26 @@ impl Runner {
         let theirs = device.resolved_places().into_iter().map(|cell| cell.map(|(r, slot)| begins(r) + slot as u64));
         let ours = cells.kept(&device.view()).into_iter().map(|((r, c), place)| r.and(c).map(|_| place));
         assert!(theirs.eq(ours.take(24)), "two lookups of the cells");
-        (self.cells, self.pattern) = (cells, pattern);
+        (self.cells, self.pattern) = (Some(cells), pattern);
         Ok("resolve".to_string())
     }
 
-    /// A load by the kept cells. The Rust loads a matrix of the pattern that they were looked up in, and one of the kept cells alone:
-    /// both must give the same.
-    pub fn load_resolved(&mut self, alpha: Option<f64>, mut rhs: Vec<f64>, values: Vec<f64>) -> Answer {
-        rows::resolved_load(self.stage, self.view().as_ref(), alpha, &self.cells, rhs.len(), values.len())?;
+    /// A load by the kept cells, or None where none are kept.
+    pub fn load_resolved(&mut self, alpha: Option<f64>, rhs: Vec<f64>, values: Vec<f64>) -> Option<Answer> {
+        let cells = self.cells.take()?;
+        let answer = self.load_by(&cells, alpha, rhs, values);
+        self.cells = Some(cells);
+        Some(answer)
+    }
+
+    /// The Rust loads a matrix of the pattern that the cells were looked up in, and one of the kept cells alone: both must give the
+    /// same.
+    fn load_by(&mut self, cells: &Cells, alpha: Option<f64>, mut rhs: Vec<f64>, values: Vec<f64>) -> Answer {
+        rows::resolved_load(self.stage, self.view().as_ref(), alpha, cells, rhs.len(), values.len())?;
         let device = self.device.as_mut().expect("row 10");
         load_residual(device, alpha, &mut rhs);
         self.pattern.values = values;
-        let by_places = loaded_at(device, alpha, &self.cells.kept(&device.view()), &self.pattern.values);
+        let by_places = loaded_at(device, alpha, &cells.kept(&device.view()), &self.pattern.values);
         let by_pattern = loaded(device, alpha, &self.pattern);
         assert_eq!(by_places[..].written(), by_pattern[..].written(), "the kept places and their pattern");
         Ok(format!("loadresolved {} {}", rhs[..].written(), by_places[..].written()))
