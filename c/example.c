@@ -1,4 +1,5 @@
-/* From a card to a load and a commit: an NMOS with its source and bulk at ground, in a matrix of two rows. C99, and C++17. */
+/* From a card to a load and a commit: an NMOS with its source and bulk at ground, in a matrix of two rows. C99, and C++17. A loop
+ * stands in loop.c. */
 #include <mivtolgya.h>
 #include <stdio.h>
 
@@ -42,14 +43,29 @@ static void evaluate(mivtolgya_device *device, const double *x) {
     printf("by value the same record: %d\n", memcmp(&by_value.device, device, sizeof *device) == 0);
 }
 
+/* the matrix: two full rows */
+static const uint32_t columns[] = {0, 1, 0, 1};
+static const size_t offsets[] = {0, 2}, lengths[] = {2, 2};
+
 static void load(const mivtolgya_device *device) {
     double rhs[2] = {0, 0}, values[4] = {0, 0, 0, 0};
-    const uint32_t columns[] = {0, 1, 0, 1}, holed[] = {0, 0, 1};
-    const size_t offsets[] = {0, 2}, lengths[] = {2, 2}, holed_offsets[] = {0, 1}, holed_lengths[] = {1, 2};
+    const uint32_t holed[] = {0, 0, 1};
+    const size_t holed_offsets[] = {0, 1}, holed_lengths[] = {1, 2};
     print_refusal("load without a cell",
                   mivtolgya_load(*device, 1, 0.0, rhs, 2, values, 3, holed, 3, holed_offsets, 2, holed_lengths, 2));
     print_system(rhs, values);
     print_refusal("load", mivtolgya_load_in_place(device, 1, 0.0, rhs, 2, values, 4, columns, 4, offsets, 2, lengths, 2));
+    print_system(rhs, values);
+}
+
+/* the same load by cells that are looked up once; with another count of values than they were looked up for, and with its own */
+static void load_resolved(const mivtolgya_device *device) {
+    double rhs[2] = {0, 0}, values[4] = {0, 0, 0, 0};
+    const mivtolgya_resolve_outcome found = mivtolgya_resolve(*device, columns, 4, offsets, 2, lengths, 2);
+    print_refusal("cells", found.refusal);
+    printf("drain with gate at %zu, gate with gate at %zu\n", found.cells.places[0], found.cells.gate_places[0]);
+    print_refusal("load of three values", mivtolgya_load_resolved(device, 1, 0.0, &found.cells, rhs, 2, values, 3));
+    print_refusal("load by cells", mivtolgya_load_resolved(device, 1, 0.0, &found.cells, rhs, 2, values, 4));
     print_system(rhs, values);
 }
 
@@ -71,6 +87,7 @@ int main(void) {
     const double x[] = {1.0, 3.0};
     evaluate(&device, x);
     load(&device);
+    load_resolved(&device);
     print_refusal("commit", mivtolgya_commit_in_place(&device, x, 2));
     printf("gate-source charge %a\n", device.histories.gs_hist.q_prev);
     mivtolgya_noise_outcome noise = mivtolgya_noise_sources(device, 300.15, 1e3);

@@ -196,23 +196,40 @@ typedef struct {
     size_t offsets[4];
 } load_case;
 
+typedef struct {
+    const uint32_t *columns;
+    const size_t *offsets, *lengths;
+    size_t count;
+} lent_pattern;
+
+static lent_pattern lend(end at, const load_case *k) {
+    const size_t widths[] = {k->width, k->width, k->width, k->width}, count = k->rows * k->width;
+    lent_pattern p = {COPY(k->columns, count, READ), COPY(k->offsets, k->rows, READ), COPY(widths, k->rows, READ), count};
+    return p;
+}
+
+/* four full rows; the device has every capacitance and both inner nodes */
+static load_case full_case(void) {
+    load_case k = {MIVTOLGYA_ACCEPTED, device_at(MIVTOLGYA_STAGE_EVALUATED, mivtolgya_gear(1e-9, 2e-9)), 0.0, 4, 4,
+                   {0, 1, 2, 3, 0, 1, 2, 3, 0, 1, 2, 3, 0, 1, 2, 3}, {0, 4, 8, 12}};
+    return k;
+}
+
 static void try_load(end at, const load_case *k) {
     const double zeros[16] = {0};
-    const size_t lengths[] = {k->width, k->width, k->width, k->width}, count = k->rows * k->width;
     use how = k->refusal == MIVTOLGYA_ACCEPTED ? WRITE : READ;
     const mivtolgya_device *device = between(&k->device, sizeof k->device, at, READ);
-    double *rhs = COPY(zeros, k->rows, how), *values = COPY(zeros, count, how);
-    const uint32_t *columns = COPY(k->columns, count, READ);
-    const size_t *offsets = COPY(k->offsets, k->rows, READ), *sizes = COPY(lengths, k->rows, READ);
+    const lent_pattern p = lend(at, k);
+    double *rhs = COPY(zeros, k->rows, how), *values = COPY(zeros, p.count, how);
     if (child("load in place", at, k->refusal)) {
-        answered(mivtolgya_load_in_place(device, 1, k->alpha, rhs, k->rows, values, count, columns, count, offsets, k->rows, sizes, k->rows),
+        answered(mivtolgya_load_in_place(device, 1, k->alpha, rhs, k->rows, values, p.count, p.columns, p.count, p.offsets, k->rows,
+                                         p.lengths, k->rows),
                  k->refusal);
     }
 }
 
 static void try_loads(end at) {
-    const load_case full = {MIVTOLGYA_ACCEPTED, device_at(MIVTOLGYA_STAGE_EVALUATED, mivtolgya_gear(1e-9, 2e-9)), 0.0, 4, 4,
-                            {0, 1, 2, 3, 0, 1, 2, 3, 0, 1, 2, 3, 0, 1, 2, 3}, {0, 4, 8, 12}};
+    const load_case full = full_case();
     load_case k = full;
     try_load(at, &k);
     k.refusal = MIVTOLGYA_REFUSED_NODE;
@@ -243,6 +260,131 @@ static void try_loads(end at) {
     try_load(at, &k);
 }
 
+/* ---- cells resolved once, and loads by them */
+
+static void try_resolve(end at, const load_case *k) {
+    static const mivtolgya_cells zeros;
+    const lent_pattern p = lend(at, k);
+    if (child("resolve", at, k->refusal)) {
+        mivtolgya_resolve_outcome o = mivtolgya_resolve(k->device, p.columns, p.count, p.offsets, k->rows, p.lengths, k->rows);
+        int none = memcmp(&o.cells, &zeros, sizeof zeros) == 0;
+        answered(none == (o.refusal != MIVTOLGYA_ACCEPTED) ? o.refusal : UINT64_MAX, k->refusal);
+    }
+}
+
+static void try_resolves(end at) {
+    const load_case full = full_case();
+    load_case k = full;
+    try_resolve(at, &k);
+    k.device = device_at(MIVTOLGYA_STAGE_BOUND, mivtolgya_no_step());
+    try_resolve(at, &k);
+    k.refusal = MIVTOLGYA_REFUSED_STAGE;
+    k.device = device_at(MIVTOLGYA_STAGE_SCALED, mivtolgya_no_step());
+    try_resolve(at, &k);
+    k = full;
+    k.refusal = MIVTOLGYA_REFUSED_NODE;
+    k.rows = 3;
+    try_resolve(at, &k);
+    k.rows = 0;
+    try_resolve(at, &k);
+    k = full;
+    k.refusal = MIVTOLGYA_REFUSED_PATTERN;
+    k.offsets[3] = 13;
+    try_resolve(at, &k);
+    k.offsets[3] = SIZE_MAX;
+    try_resolve(at, &k);
+    k = full;
+    k.refusal = MIVTOLGYA_REFUSED_MISSING_CELL;
+    k.columns[15] = 4; /* inner source with itself */
+    try_resolve(at, &k);
+    k = full;
+    k.columns[7] = 4; /* gate with the inner source: a branch's cell may be absent */
+    try_resolve(at, &k);
+    k.refusal = MIVTOLGYA_REFUSED_TAG;
+    k.device.terminals.bulk.tag = 2;
+    try_resolve(at, &k);
+}
+
+typedef struct {
+    uint64_t refusal;
+    mivtolgya_device device;
+    uint64_t transient;
+    mivtolgya_cells cells;
+    size_t rows, values;
+} resolved_case;
+
+static void try_resolved_load(end at, const resolved_case *k) {
+    const double zeros[17] = {0};
+    use how = k->refusal == MIVTOLGYA_ACCEPTED ? WRITE : READ;
+    const mivtolgya_device *device = between(&k->device, sizeof k->device, at, READ);
+    const mivtolgya_cells *cells = between(&k->cells, sizeof k->cells, at, READ);
+    double *rhs = COPY(zeros, k->rows, how), *values = COPY(zeros, k->values, how);
+    if (child("resolved load", at, k->refusal)) {
+        answered(mivtolgya_load_resolved(device, k->transient, 0.0, cells, rhs, k->rows, values, k->values), k->refusal);
+    }
+}
+
+static resolved_case full_resolved_case(void) {
+    const size_t widths[] = {4, 4, 4, 4};
+    const load_case full = full_case();
+    mivtolgya_resolve_outcome o = mivtolgya_resolve(full.device, full.columns, 16, full.offsets, 4, widths, 4);
+    must(o.refusal);
+    resolved_case k = {MIVTOLGYA_ACCEPTED, full.device, 1, o.cells, 4, 16};
+    return k;
+}
+
+/* every number of the cells replaced in turn by one that no pattern of 16 values has; ground's places are not looked at */
+static void try_forged_cells(end at, const resolved_case *full) {
+    static const size_t forged[] = {16, SIZE_MAX - 1, SIZE_MAX};
+    for (size_t i = 0; i < 3 * 29; i++) {
+        resolved_case k = *full;
+        size_t *place = i % 29 < 24 ? &k.cells.places[i % 29] : &k.cells.gate_places[i % 29 - 24];
+        k.refusal = *place == MIVTOLGYA_CELL_GROUND ? MIVTOLGYA_ACCEPTED : MIVTOLGYA_REFUSED_MISSING_CELL;
+        *place = forged[i / 29];
+        try_resolved_load(at, &k);
+    }
+    for (size_t i = 0; i < 6; i++) {
+        resolved_case k = *full;
+        k.refusal = MIVTOLGYA_REFUSED_MISSING_CELL;
+        k.cells.nodes[i] ^= 1;
+        try_resolved_load(at, &k);
+    }
+}
+
+static void try_resolved_loads(end at) {
+    const resolved_case full = full_resolved_case();
+    resolved_case k = full;
+    try_resolved_load(at, &k);
+    k.transient = 0;
+    try_resolved_load(at, &k);
+    try_forged_cells(at, &full);
+    k.refusal = MIVTOLGYA_REFUSED_NODE;
+    for (k.rows = 0; k.rows < 4; k.rows++) {
+        try_resolved_load(at, &k);
+    }
+    k.cells.rows = 3;
+    try_resolved_load(at, &k);
+    k = full;
+    k.refusal = MIVTOLGYA_REFUSED_PATTERN;
+    for (k.values = 15; k.values < 18; k.values += 2) {
+        try_resolved_load(at, &k);
+    }
+    k = full;
+    k.refusal = MIVTOLGYA_REFUSED_STAGE;
+    k.device = device_at(MIVTOLGYA_STAGE_BOUND, mivtolgya_no_step());
+    try_resolved_load(at, &k);
+    k.refusal = MIVTOLGYA_REFUSED_STEP;
+    k.device = device_at(MIVTOLGYA_STAGE_EVALUATED, mivtolgya_no_step());
+    try_resolved_load(at, &k);
+    k = full;
+    k.refusal = MIVTOLGYA_REFUSED_TAG;
+    k.transient = 2;
+    try_resolved_load(at, &k);
+    k.transient = 1;
+    k.device.stage = 0;
+    try_resolved_load(at, &k);
+}
+
 int main(void) {
     for (int i = 0; i < 2; i++) {
         end at = i == 0 ? FIRST : LAST;
@@ -250,6 +392,8 @@ int main(void) {
         try_evaluations(at);
         try_commits(at);
         try_loads(at);
+        try_resolves(at);
+        try_resolved_loads(at);
     }
     printf("%d calls between guard pages, %d failed\n", calls, failures);
     return failures == 0 ? 0 : 1;

@@ -45,6 +45,7 @@ static mivtolgya_keys_outcome keys_outcome;
 static mivtolgya_device_outcome device_outcome;
 static mivtolgya_evaluation_outcome evaluation_outcome;
 static mivtolgya_evaluation_reply reply;
+static mivtolgya_resolve_outcome resolve_outcome;
 static mivtolgya_noise_outcome noise_outcome;
 static mivtolgya_reactances_outcome reactances_outcome;
 static uint64_t refusal;
@@ -78,6 +79,12 @@ static void load_by_value(void) {
     refusal = mivtolgya_load(copy, conditions.transient, 1e9, rhs, 6, values, 36, columns, 36, offsets, 6, lengths, 6);
 }
 
+static void resolve(void) { refusal = (resolve_outcome = mivtolgya_resolve(copy, columns, 36, offsets, 6, lengths, 6)).refusal; }
+
+static void load_resolved(void) {
+    refusal = mivtolgya_load_resolved(&copy, conditions.transient, 1e9, &resolve_outcome.cells, rhs, 6, values, 36);
+}
+
 /* a stage's calls, and what each took at most */
 typedef struct {
     const char *name;
@@ -95,6 +102,8 @@ static measured all[] = {
     {"evaluation by value", eval_by_value, MIVTOLGYA_STAGE_BOUND, MIVTOLGYA_STAGE_EVALUATED, 0},
     {"load in place", load_in_place, MIVTOLGYA_STAGE_EVALUATED, MIVTOLGYA_STAGE_EVALUATED, 0},
     {"load by value", load_by_value, MIVTOLGYA_STAGE_EVALUATED, MIVTOLGYA_STAGE_EVALUATED, 0},
+    {"resolving", resolve, MIVTOLGYA_STAGE_BOUND, MIVTOLGYA_STAGE_EVALUATED, 0},
+    {"resolved load", load_resolved, MIVTOLGYA_STAGE_EVALUATED, MIVTOLGYA_STAGE_EVALUATED, 0},
     {"commit in place", commit_in_place, MIVTOLGYA_STAGE_EVALUATED, MIVTOLGYA_STAGE_EVALUATED, 0},
     {"commit by value", commit_by_value, MIVTOLGYA_STAGE_EVALUATED, MIVTOLGYA_STAGE_EVALUATED, 0},
     {"noise", noise, MIVTOLGYA_STAGE_EVALUATED, MIVTOLGYA_STAGE_EVALUATED, 0},

@@ -4,7 +4,8 @@
  * A device is a record in the caller's memory. A call takes it by value and answers the record that is to take its place, with the
  * number of the refusal: MIVTOLGYA_ACCEPTED, or one of MIVTOLGYA_REFUSED_.. below. After a refusal the record answered is the one
  * handed in and nothing lent was written. Evaluation, load and commit stand here also for a record where it lies (`_in_place`): the
- * same answers and the same record afterwards, but only what changes is written and nothing is copied. A loop should call these.
+ * same answers and the same record afterwards, but only what changes is written and nothing is copied. A loop should call these, and
+ * mivtolgya_load_resolved in place of the load where the matrix is large: its cells are looked up once, by mivtolgya_resolve.
  *
  * Rules of every pointer. A lent slice is a pointer and the count of its elements. The pointer is not null, also where the count is
  * 0, and aligned for its element: 8 bytes for double and size_t, 4 for uint32_t. A slice that is only read (const) may overlap other
@@ -48,8 +49,8 @@ extern "C" {
 #define MIVTOLGYA_REFUSED_VOLTAGE UINT64_C(9)       /* a voltage is not finite or beyond 1000 V */
 #define MIVTOLGYA_REFUSED_STAGE UINT64_C(10)        /* the call comes too early or too late */
 #define MIVTOLGYA_REFUSED_STEP UINT64_C(11)         /* a step, or alpha where there is no step, is out of range */
-#define MIVTOLGYA_REFUSED_PATTERN UINT64_C(12)      /* the matrix is not laid out as it must be */
-#define MIVTOLGYA_REFUSED_MISSING_CELL UINT64_C(13) /* the matrix has no place for a value */
+#define MIVTOLGYA_REFUSED_PATTERN UINT64_C(12)      /* the matrix is not laid out as it must be, or not as it was resolved */
+#define MIVTOLGYA_REFUSED_MISSING_CELL UINT64_C(13) /* the matrix has no place for a value, or the cells are another binding's */
 #define MIVTOLGYA_REFUSED_TAG UINT64_C(100)         /* an unknown tag, or memory that is no device */
 
 /* ---- what the inline checks below answer besides; the library itself never does */
@@ -74,6 +75,10 @@ extern "C" {
 #define MIVTOLGYA_METHOD_EULER UINT64_C(1)
 #define MIVTOLGYA_METHOD_TRAPEZOID UINT64_C(2)
 #define MIVTOLGYA_METHOD_GEAR UINT64_C(3)
+
+/* in place of a number of mivtolgya_cells: the node, or an end of the cell, is ground; the pattern has no such cell */
+#define MIVTOLGYA_CELL_GROUND SIZE_MAX
+#define MIVTOLGYA_CELL_ABSENT (SIZE_MAX - 1)
 
 #define MIVTOLGYA_STAGE_CARD UINT64_C(1)
 #define MIVTOLGYA_STAGE_GEOMETRY UINT64_C(2)
@@ -326,6 +331,29 @@ typedef struct {
     mivtolgya_reactance bd;
 } mivtolgya_reactances_outcome;
 
+/* Where the cells of a bound device lie in a matrix, as mivtolgya_resolve answers it. Hold it beside the device and write none of it.
+ * It is made for the six nodes of a binding and for one pattern:
+ * nodes: the rows of the outer drain, outer source, drain, gate, source and bulk, MIVTOLGYA_CELL_GROUND for ground.
+ * rows, values: how many rows and how many values the pattern has.
+ * places: where the values lie that every load adds to, 24 of them, some of them equal. With d, g, s, b for the inner drain, gate,
+ * inner source and bulk, D and S for the outer ones, row before column:
+ * dg dd ds db, sg sd ss sb, DD Dd dD dd, SS Ss sS ss, bb bs sb ss, bb bd db dd.
+ * gate_places: gg gs gd gb bg, which a transient load adds to where the gate has a capacitance.
+ * A place is MIVTOLGYA_CELL_GROUND where an end is ground; in gate_places MIVTOLGYA_CELL_ABSENT where the pattern has no such cell. */
+typedef struct {
+    size_t nodes[6];
+    size_t rows;
+    size_t values;
+    size_t places[24];
+    size_t gate_places[5];
+} mivtolgya_cells;
+
+/* The cells, and the number of the refusal. A refused call's cells are zeros. */
+typedef struct {
+    uint64_t refusal;
+    mivtolgya_cells cells;
+} mivtolgya_resolve_outcome;
+
 /* ---- sizes: eight bytes for each number */
 MIVTOLGYA_ASSERT(double_size, sizeof(double) == 8);
 MIVTOLGYA_ASSERT(count_size, sizeof(size_t) == 8);
@@ -352,6 +380,8 @@ MIVTOLGYA_ASSERT(evaluation_reply_size, sizeof(mivtolgya_evaluation_reply) == 64
 MIVTOLGYA_ASSERT(noise_outcome_size, sizeof(mivtolgya_noise_outcome) == 56);
 MIVTOLGYA_ASSERT(reactance_size, sizeof(mivtolgya_reactance) == 48);
 MIVTOLGYA_ASSERT(reactances_outcome_size, sizeof(mivtolgya_reactances_outcome) == 248);
+MIVTOLGYA_ASSERT(cells_size, sizeof(mivtolgya_cells) == 296);
+MIVTOLGYA_ASSERT(resolve_outcome_size, sizeof(mivtolgya_resolve_outcome) == 304);
 
 /* ---- calls */
 
@@ -490,6 +520,39 @@ uint64_t mivtolgya_commit_in_place(
     const double *x,
     size_t x_count);
 
+/* Looks up every cell of a bound device in a matrix, once, for mivtolgya_load_resolved. Call it after the binding and again
+ *   - after each binding anew (mivtolgya_setup_instance), and
+ *   - whenever the pattern, columns, offsets or lengths, changes.
+ * An evaluation, a commit, a scaling or other values do not change it, and devices with the same six nodes may share one answer. The
+ * matrix has as many values as `columns` has entries. It may lack cells of `gate_places`, until a transient load needs them.
+ * columns: not null, aligned to 4, only read. offsets, lengths: not null, aligned to 8, only read. */
+mivtolgya_resolve_outcome mivtolgya_resolve(
+    mivtolgya_device device,
+    const uint32_t *columns,
+    size_t column_count,
+    const size_t *offsets,
+    size_t offset_count,
+    const size_t *lengths,
+    size_t length_count);
+
+/* `mivtolgya_load_in_place` on the pattern that `cells` was resolved for, with the same answer and the same two slices, but without
+ * the pattern and without a search: the time does not grow with the matrix. `transient` and alpha as there.
+ * Noticed, and refused before anything is written: cells of another binding (MIVTOLGYA_REFUSED_MISSING_CELL), a right-hand side that
+ * is too short (_NODE), another count of values (_PATTERN), a needed place that is absent or behind the values (_MISSING_CELL).
+ * Not noticed: a pattern that was changed after the cells were resolved and has as many values as before. What is added then goes
+ * where the cells lay before. Resolve again.
+ * device, cells: not null, aligned to 8, only read. rhs, values: not null, aligned to 8, written: neither overlaps the other or
+ * anything else that is lent. */
+uint64_t mivtolgya_load_resolved(
+    const mivtolgya_device *device,
+    uint64_t transient,
+    double alpha,
+    const mivtolgya_cells *cells,
+    double *rhs,
+    size_t rhs_count,
+    double *values,
+    size_t value_count);
+
 /* ---- checks before the first call */
 
 /* Whether this header belongs to the archive that is linked: MIVTOLGYA_ACCEPTED, _OTHER_VERSION or _OTHER_RECORD. */
@@ -536,8 +599,8 @@ static inline const char *mivtolgya_refusal_text(uint64_t number) {
     case MIVTOLGYA_REFUSED_VOLTAGE: return "a voltage is not finite or beyond 1000 V";
     case MIVTOLGYA_REFUSED_STAGE: return "the call comes too early or too late";
     case MIVTOLGYA_REFUSED_STEP: return "a step or alpha is out of range";
-    case MIVTOLGYA_REFUSED_PATTERN: return "the matrix is not laid out as it must be";
-    case MIVTOLGYA_REFUSED_MISSING_CELL: return "the matrix has no place for a value";
+    case MIVTOLGYA_REFUSED_PATTERN: return "the matrix is not laid out as it must be, or not as it was resolved";
+    case MIVTOLGYA_REFUSED_MISSING_CELL: return "the matrix has no place for a value, or the cells are another binding's";
     case MIVTOLGYA_REFUSED_TAG: return "an unknown tag, or memory that is no device";
     case MIVTOLGYA_OTHER_VERSION: return "the archive has another interface";
     case MIVTOLGYA_OTHER_RECORD: return "the archive's device has another size";

@@ -6,8 +6,9 @@
   generate.py curve SEED LINES     lines for the program `curve`
 
 The same arguments give the same text. A script is a sequence of devices. Each is given a card, a geometry, a scaling, a binding and then
-a list of evaluations, loads, commits, noises and reactances, with calls out of order, damaged calls and damaged lines in between. Values come
-from inside the ranges, their ends, the ends' neighbours and the odd numbers of the format.
+a list of evaluations, loads, commits, noises and reactances, with calls out of order, damaged calls and damaged lines in between. Cells are
+looked up in right and damaged patterns, and loaded by after other lookups, bindings and devices. Values come from inside the ranges, their
+ends, the ends' neighbours and the odd numbers of the format.
 """
 import math
 import random
@@ -16,6 +17,7 @@ import sys
 
 import elementary_calls
 import load_calls
+import resolved_calls
 import setup_calls
 import temperature_calls
 from words import CARD, GEOMETRY, INF, LEAST_NORMAL, MAY_BE_ZERO, NAN, ODD, TINY, UNREAD, neighbours, number, numbers, pairs, wholes
@@ -38,6 +40,8 @@ class Script:
         self.r = random.Random(seed)
         self.states = states
         self.lines = []
+        self.bound = None  # the last binding
+        self.sizes = (0, 0)  # rows and values of the last lookup
 
     # ---- values
 
@@ -226,9 +230,13 @@ class Script:
 
     def bind(self):
         r = self.r
-        self.size = r.choice([1, 2, 4, 5, 6])
-        four = [self.node() for _ in range(4)]
-        first = self.size if r.random() < 0.9 else self.any_whole()
+        if self.bound is None or r.random() < 0.7:
+            self.size = r.choice([1, 2, 4, 5, 6])
+            four = [self.node() for _ in range(4)]
+            first = self.size if r.random() < 0.9 else self.any_whole()
+            self.bound = (self.size, four, first)
+        # else the nodes of the binding before, so that looked up cells are those of the next device too
+        self.size, four, first = self.bound
         self.add("bind %s %d" % (" ".join("-" if n is None else str(n) for n in four), first))
         # The inner nodes are in the answer; both are counted here, whether they are made or not.
         self.nodes = four + [first, first + 1]
@@ -288,11 +296,12 @@ class Script:
             return r.uniform(-1, 1) * 10 ** r.uniform(-12, 6)
         return r.choice(ODD)
 
-    def load(self, kind=None):
+    def contents(self, n):
+        return [self.content() for _ in range(n)]
+
+    def pattern(self, rows, width, without=()):
+        """Columns and rows of a matrix, most of them full; the cells without which it is are left out."""
         r = self.r
-        n = self.length()
-        rows = n if r.random() < 0.95 else max(0, n + r.choice([1, -1]))
-        width = max(n, rows)
         columns, spans = [], []
         for i in range(rows):
             if r.random() < 0.1:
@@ -300,17 +309,59 @@ class Script:
             row = list(range(width)) if r.random() < 0.98 else sorted(r.sample(range(width + 3), r.randrange(width + 3)))
             if r.random() < 0.01 and row:
                 row.remove(r.choice(row))
+            row = [c for c in row if (i, c) not in without]
             spans.append((len(columns), len(row)))
             columns += row
-        values = [self.content() for _ in columns]
-        if r.random() < 0.06:
-            self.damage_matrix(columns, spans, values)
+        return columns, spans
+
+    def load_kind(self, kind):
+        """The word of a load."""
+        r = self.r
         alpha = r.choice([1e9, 1.0, 1e16, 10 ** r.uniform(0, 16)])
         if r.random() < 0.06:
             alpha = r.choice([0.0, math.nextafter(1.0, 0.0), math.nextafter(1e16, INF), NAN, INF, -1.0])
         kind = kind or r.choice(["dc", "tran", "tran"])
-        self.add("load %s %s %s %s %s" % (kind if kind == "dc" else "tran:" + number(alpha), numbers([self.content() for _ in range(n)]),
-                                          wholes(columns), pairs(spans), numbers(values)))
+        return kind if kind == "dc" else "tran:" + number(alpha)
+
+    def matrix_rows(self):
+        """The length of a right-hand side and the rows of a matrix, seldom another number."""
+        n = self.length()
+        return n, n if self.r.random() < 0.95 else max(0, n + self.r.choice([1, -1]))
+
+    def load(self, kind=None):
+        n, rows = self.matrix_rows()
+        columns, spans = self.pattern(rows, max(n, rows))
+        values = self.contents(len(columns))
+        if self.r.random() < 0.06:
+            self.damage_matrix(columns, spans, values)
+        self.add("load %s %s %s %s %s" % (self.load_kind(kind), numbers(self.contents(n)), wholes(columns), pairs(spans), numbers(values)))
+
+    def gate_cells(self):
+        """Cells that only the gate's charge branches need, as far as the nodes are known."""
+        if not self.nodes:
+            return []
+        d, g, s, b, inner_d, inner_s = self.nodes
+        return [(g, g), (g, s), (g, d), (g, b), (b, g), (g, inner_d), (g, inner_s)]
+
+    def resolve(self):
+        r = self.r
+        n, rows = self.matrix_rows()
+        without = r.sample(self.gate_cells(), 1) if self.nodes and r.random() < 0.15 else []
+        columns, spans = self.pattern(rows, max(n, rows), without)
+        if r.random() < 0.12:
+            self.damage_matrix(columns, spans, [])
+        else:
+            self.sizes = (len(spans), len(columns))
+        self.add("resolve %s %s" % (wholes(columns), pairs(spans)))
+
+    def loadresolved(self, kind=None):
+        r = self.r
+        rows, count = self.sizes
+        if r.random() < 0.05:
+            rows = max(0, rows + r.choice([-rows, -2, -1, 1]))
+        if r.random() < 0.05:
+            count = max(0, count + r.choice([-count, -1, 1]))
+        self.add("loadresolved %s %s %s" % (self.load_kind(kind), numbers(self.contents(rows)), numbers(self.contents(count))))
 
     def damage_matrix(self, columns, spans, values):
         r = self.r
@@ -421,8 +472,9 @@ class Script:
 
     def one_call(self):
         r = self.r
-        getattr(self, r.choices(["eval", "load", "commit", "noise", "reactances", "scale", "geometry", "bind", "call", "damaged_line"],
-                                [30, 30, 12, 6, 4, 4, 1, 1, 6, 3])[0])()
+        chosen = {"eval": 30, "load": 24, "resolve": 5, "loadresolved": 16, "commit": 12, "noise": 6, "reactances": 4, "scale": 4, "geometry": 1,
+                  "bind": 1, "call": 6, "damaged_line": 3}
+        getattr(self, r.choices(list(chosen), list(chosen.values()))[0])()
 
     def reactances(self):
         self.add("reactances")
@@ -435,15 +487,18 @@ class Script:
             self.add("reset")
             self.exact, self.tnom = False, 300.15
             for _ in range(r.randrange(5)):
-                getattr(self, r.choice(["eval", "load", "commit", "noise", "reactances", "scale", "geometry", "bind"]))()
+                getattr(self, r.choice(["eval", "load", "resolve", "loadresolved", "commit", "noise", "reactances", "scale", "geometry", "bind"]))()
         if r.random() < 0.3:
             self.card(0.05)
         self.card(0)
         if r.random() < 0.2:
             self.geometry(0.1)
         steps = [lambda: self.geometry(0), lambda: self.scale(0), self.bind]
+        if r.random() < 0.3:
+            steps.append(self.resolve)
         if r.random() < 0.15:
-            steps.insert(r.randrange(4), r.choice([self.geometry, self.scale, self.bind, self.eval, self.load, self.commit, self.noise, self.reactances]))
+            others = [self.geometry, self.scale, self.bind, self.eval, self.load, self.resolve, self.loadresolved, self.commit, self.noise, self.reactances]
+            steps.insert(r.randrange(4), r.choice(others))
         if r.random() < 0.05:
             r.shuffle(steps)
         for step in steps:
@@ -457,13 +512,14 @@ class Script:
         """A run of steps under one method: evaluations, load, commit."""
         r = self.r
         kind = r.choice(["euler", "trap", "gear", "mixed"])
+        self.resolve()
         for _ in range(r.choice([10, 30, 100])):
             method = self.method()
             while kind != "mixed" and not method.startswith(kind):
                 method = self.method()
             for _ in range(r.choice([1, 1, 2])):
                 self.eval("tran", method)
-            self.load("tran")
+            getattr(self, r.choice(["load", "loadresolved"]))("tran")
             self.commit()
             if r.random() < 0.05:
                 self.scale()
@@ -502,7 +558,7 @@ def seldom():
 def fixed():
     """Lists that were thought out for one part each."""
     yield from ["reset", *elementary_calls.calls(), *temperature_calls.calls()]
-    yield from ["reset", *setup_calls.calls(), *load_calls.calls()]
+    yield from ["reset", *setup_calls.calls(), *load_calls.calls(), *resolved_calls.calls()]
 
 
 def curve(seed, count):

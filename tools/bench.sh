@@ -1,6 +1,7 @@
 #!/bin/sh
-# The benchmark: the port through its library against the published Rust, with the C library's functions and with the port's.
-# FAIRCHILD_SRC names the folder of the published sources. Run from the repository's root; prints tables for docs/PERFORMANCE.md.
+# The benchmark: the port through its library against the published Rust, with the C library's functions and with the port's, and
+# against ngspice where it is installed (without it a line says so). FAIRCHILD_SRC names the folder of the published sources. Run
+# from the repository's root; prints tables for docs/PERFORMANCE.md.
 set -e
 : "${FAIRCHILD_SRC:?set FAIRCHILD_SRC to the folder of the published Rust sources}"
 for library in mivtolgya elementary; do

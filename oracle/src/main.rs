@@ -83,6 +83,10 @@ fn answer(runner: &mut Runner, words: &[&[u8]]) -> Option<String> {
                 Matrix { columns: list(columns, column)?, rows: list(rows, pair)?, values: list(values, number)? };
             runner.load(load_kind(kind)?, list(rhs, number)?, matrix)
         }
+        [b"resolve", columns, rows] => runner.resolve(list(columns, column)?, list(rows, pair)?),
+        [b"loadresolved", kind, rhs, values] => {
+            runner.load_resolved(load_kind(kind)?, list(rhs, number)?, list(values, number)?)?
+        }
         [b"commit", x] => runner.commit(&list(x, number)?),
         [b"noise", kelvin, freq] => runner.noise(number(kelvin)?, number(freq)?),
         [b"reactances"] => runner.reactances(),

@@ -2,7 +2,8 @@
 //!
 //! Each call's function goes through its rows in the order of their numbers, so that the lowest that applies is the one answered. A row
 //! that speaks of something that does not exist yet does not apply. Of the Rust it takes only what the paper points to: the `MOSFET`
-//! list, `scaled_phi` and `scaled_junction_potential`, and the device's nodes, cells and capacitances.
+//! list, `scaled_phi` and `scaled_junction_potential`, and the device's nodes, cells and capacitances. The rows of a lookup of cells
+//! and of a load by them are not the paper's but those of docs/USING.md.
 
 use crate::device::{Discretisation, NodeId};
 use crate::mosfet1::inside::View;
@@ -10,6 +11,9 @@ use crate::temperature::{scaled_junction_potential, scaled_phi};
 use crate::unmodelled;
 
 pub type Row = Result<(), u8>;
+
+/// A cell by its row and column.
+pub type Position = (NodeId, NodeId);
 
 /// How far a device has come. The stages form a line.
 #[derive(Clone, Copy, PartialEq, Eq, PartialOrd, Ord)]
@@ -222,6 +226,7 @@ pub fn evaluation(
 }
 
 /// The lent matrix.
+#[derive(Default)]
 pub struct Matrix {
     pub columns: Vec<u32>,
     pub rows: Vec<(u64, u64)>,
@@ -240,12 +245,33 @@ impl Matrix {
         part(&self.columns, self.rows[r])
     }
 
-    fn lacks(&self, cell: &(NodeId, NodeId)) -> bool {
+    pub fn all_columns(&self) -> Vec<Vec<u32>> {
+        (0..self.rows.len()).map(|r| self.row(r).to_vec()).collect()
+    }
+
+    /// The place of a cell without a ground end, if the matrix has it.
+    fn place(&self, r: usize, c: usize) -> Option<u64> {
+        let at = self.row(r).iter().position(|column| *column as usize == c)?;
+        Some(self.rows[r].0 + at as u64)
+    }
+
+    fn lacks(&self, cell: &Position) -> bool {
         match cell {
-            (Some(r), Some(c)) => !self.row(*r).iter().any(|column| *column as usize == *c),
+            (Some(r), Some(c)) => self.place(*r, *c).is_none(),
             _ => false,
         }
     }
+}
+
+/// The cells that a load adds to besides the 24 pairs: the four of each branch with a capacitance, if the load is transient.
+fn of_branches(d: &View, transient: bool) -> Vec<Position> {
+    let loaded = d.branches.iter().filter(|(_, _, c)| transient && *c != 0.0);
+    loaded.flat_map(|(a, b, _)| [(*a, *a), (*a, *b), (*b, *b), (*b, *a)]).collect()
+}
+
+/// `alpha`, None for a direct-current load, out of its range where it is read.
+fn bad_alpha(d: &View, alpha: Option<f64>) -> bool {
+    alpha.is_some_and(|a| !d.has_step && !inside(a, 1.0, 1e16))
 }
 
 /// `alpha` is None for a direct-current load.
@@ -256,11 +282,89 @@ pub fn load(stage: Stage, device: Option<&View>, alpha: Option<f64>, rhs: &[f64]
     }
     row(10, stage < Stage::Evaluated)?;
     let d = bound.expect("row 10");
-    row(11, alpha.is_some_and(|a| !d.has_step && !inside(a, 1.0, 1e16)))?;
+    row(11, bad_alpha(d, alpha))?;
     row(12, matrix.malformed())?;
-    let loaded = d.branches.iter().filter(|(_, _, c)| alpha.is_some() && *c != 0.0);
-    let of_branches = loaded.flat_map(|(a, b, _)| [(*a, *a), (*a, *b), (*b, *b), (*b, *a)]);
-    row(13, d.pairs.into_iter().chain(of_branches).any(|cell| matrix.lacks(&cell)))
+    row(13, d.pairs.into_iter().chain(of_branches(d, alpha.is_some())).any(|cell| matrix.lacks(&cell)))
+}
+
+/// What a lookup keeps: the outer drain and source, drain, gate, source and bulk by their rows; how many rows and values the pattern
+/// has; the places of the 24 pairs and of gg, gs, gd, gb, bg. At first all are 0.
+#[derive(Clone, Default)]
+pub struct Cells {
+    nodes: [u64; 6],
+    rows: u64,
+    values: u64,
+    places: [u64; 24],
+    gate_places: [u64; 5],
+}
+
+/// In place of a node that is ground, and of a cell with such an end.
+const GROUND: u64 = u64::MAX;
+
+/// In place of a cell that the pattern lacks.
+const ABSENT: u64 = u64::MAX - 1;
+
+fn numbered(node: NodeId) -> u64 {
+    node.map_or(GROUND, |n| n as u64)
+}
+
+fn node_numbers(d: &View) -> [u64; 6] {
+    let [drain, gate, source, bulk, outer_drain, outer_source] = d.nodes.map(numbered);
+    [outer_drain, outer_source, drain, gate, source, bulk]
+}
+
+fn gate_pairs(d: &View) -> [Position; 5] {
+    let [drain, g, source, b, ..] = d.nodes;
+    [(g, g), (g, source), (g, drain), (g, b), (b, g)]
+}
+
+impl Cells {
+    /// The cells of a device in a pattern that no row refuses.
+    pub fn of(d: &View, pattern: &Matrix) -> Cells {
+        let place = |cell: Position| match cell {
+            (Some(r), Some(c)) => pattern.place(r, c).unwrap_or(ABSENT),
+            _ => GROUND,
+        };
+        Cells {
+            nodes: node_numbers(d),
+            rows: pattern.rows.len() as u64,
+            values: pattern.columns.len() as u64,
+            places: d.pairs.map(place),
+            gate_places: gate_pairs(d).map(place),
+        }
+    }
+
+    /// The positions of a device and the places that are kept for them.
+    pub fn kept(&self, d: &View) -> Vec<(Position, u64)> {
+        let positions = d.pairs.into_iter().chain(gate_pairs(d));
+        positions.zip(self.places.into_iter().chain(self.gate_places)).collect()
+    }
+}
+
+pub fn resolving(stage: Stage, device: Option<&View>, pattern: &Matrix) -> Row {
+    let bound = device.filter(|_| stage >= Stage::Bound);
+    row(8, bound.is_some_and(|d| beyond(&d.nodes, pattern.rows.len())))?;
+    row(10, bound.is_none())?;
+    row(12, pattern.malformed())?;
+    row(13, bound.expect("row 10").pairs.iter().any(|cell| pattern.lacks(cell)))
+}
+
+/// A load by kept cells, of a right-hand side of `rows` entries and so many values.
+pub fn resolved_load(stage: Stage, device: Option<&View>, alpha: Option<f64>, cells: &Cells, rows: usize, values: usize) -> Row {
+    let bound = device.filter(|_| stage >= Stage::Bound);
+    if let Some(d) = bound {
+        row(8, beyond(&d.nodes, rows) || d.nodes.iter().flatten().any(|node| *node as u64 >= cells.rows))?;
+    }
+    row(10, stage < Stage::Evaluated)?;
+    let d = bound.expect("row 10");
+    row(11, bad_alpha(d, alpha))?;
+    row(12, values as u64 != cells.values)?;
+    let kept = cells.kept(d);
+    let outside = |cell: &Position| match cell {
+        (Some(_), Some(_)) => kept.iter().find(|(at, _)| at == cell).map_or(true, |(_, place)| *place >= values as u64),
+        _ => false,
+    };
+    row(13, cells.nodes != node_numbers(d) || d.pairs.iter().chain(&of_branches(d, alpha.is_some())).any(outside))
 }
 
 pub fn commit(stage: Stage, device: Option<&View>, x: &[f64]) -> Row {

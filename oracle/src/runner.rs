@@ -6,13 +6,16 @@ use crate::device::{Device, Discretisation, EvalFlags, NodeId, SimContext};
 use crate::format::Written;
 use crate::mna::{inside::pattern_of, MnaMatrix};
 use crate::mosfet1::{inside::View, Mosfet1};
-use crate::rows::{self, Keys, Matrix, Stage, Table};
+use crate::rows::{self, Cells, Keys, Matrix, Position, Stage, Table};
 
 pub type Answer = Result<String, u8>;
 
 pub struct Runner {
     device: Option<Mosfet1>,
     stage: Stage,
+    /// The cells of the last accepted lookup, and the pattern that they were looked up in.
+    cells: Option<Cells>,
+    pattern: Matrix,
 }
 
 /// What an evaluation is handed besides the voltages.
@@ -43,7 +46,7 @@ fn branch(pos: NodeId, neg: NodeId, value: f64) -> String {
 
 impl Runner {
     pub fn new() -> Runner {
-        Runner { device: None, stage: Stage::NoDevice }
+        Runner { device: None, stage: Stage::NoDevice, cells: None, pattern: Matrix::default() }
     }
 
     fn view(&self) -> Option<View> {
@@ -59,7 +62,8 @@ impl Runner {
     pub fn card(&mut self, is_pmos: bool, keys: &Keys) -> Answer {
         rows::card(keys)?;
         let (device, unknown) = Mosfet1::from_model_params(is_pmos, &keys.named());
-        *self = Runner { device: Some(device), stage: Stage::Card };
+        self.device = Some(device);
+        self.stage = Stage::Card;
         Ok(with_places("card", keys, Table::Card, unknown))
     }
 
@@ -109,12 +113,45 @@ impl Runner {
     pub fn load(&mut self, alpha: Option<f64>, mut rhs: Vec<f64>, mut matrix: Matrix) -> Answer {
         rows::load(self.stage, self.view().as_ref(), alpha, &rhs, &matrix)?;
         let device = self.accepted(Stage::Evaluated);
-        match alpha {
-            None => device.load_residual(&mut rhs),
-            Some(a) => device.load_residual_tran(&mut rhs, a),
-        }
+        load_residual(device, alpha, &mut rhs);
         matrix.values = loaded(device, alpha, &matrix);
         Ok(format!("load {} {}", rhs[..].written(), matrix.values[..].written()))
+    }
+
+    /// Looks the cells up, by this harness's own search and by the Rust's, which must say the same.
+    pub fn resolve(&mut self, columns: Vec<u32>, rows: Vec<(u64, u64)>) -> Answer {
+        let pattern = Matrix { values: vec![0.0; columns.len()], columns, rows };
+        rows::resolving(self.stage, self.view().as_ref(), &pattern)?;
+        let device = self.device.as_mut().expect("row 10");
+        let cells = Cells::of(&device.view(), &pattern);
+        device.resolve_cells(&pattern_of(&pattern.all_columns()));
+        let begins = |r: usize| pattern.rows[r].0;
+        let theirs = device.resolved_places().into_iter().map(|cell| cell.map(|(r, slot)| begins(r) + slot as u64));
+        let ours = cells.kept(&device.view()).into_iter().map(|((r, c), place)| r.and(c).map(|_| place));
+        assert!(theirs.eq(ours.take(24)), "two lookups of the cells");
+        (self.cells, self.pattern) = (Some(cells), pattern);
+        Ok("resolve".to_string())
+    }
+
+    /// A load by the kept cells, or None where none are kept.
+    pub fn load_resolved(&mut self, alpha: Option<f64>, rhs: Vec<f64>, values: Vec<f64>) -> Option<Answer> {
+        let cells = self.cells.take()?;
+        let answer = self.load_by(&cells, alpha, rhs, values);
+        self.cells = Some(cells);
+        Some(answer)
+    }
+
+    /// The Rust loads a matrix of the pattern that the cells were looked up in, and one of the kept cells alone: both must give the
+    /// same.
+    fn load_by(&mut self, cells: &Cells, alpha: Option<f64>, mut rhs: Vec<f64>, values: Vec<f64>) -> Answer {
+        rows::resolved_load(self.stage, self.view().as_ref(), alpha, cells, rhs.len(), values.len())?;
+        let device = self.device.as_mut().expect("row 10");
+        load_residual(device, alpha, &mut rhs);
+        self.pattern.values = values;
+        let by_places = loaded_at(device, alpha, &cells.kept(&device.view()), &self.pattern.values);
+        let by_pattern = loaded(device, alpha, &self.pattern);
+        assert_eq!(by_places[..].written(), by_pattern[..].written(), "the kept places and their pattern");
+        Ok(format!("loadresolved {} {}", rhs[..].written(), by_places[..].written()))
     }
 
     pub fn commit(&mut self, x: &[f64]) -> Answer {
@@ -142,6 +179,39 @@ impl Runner {
     }
 }
 
+fn load_residual(device: &Mosfet1, alpha: Option<f64>, rhs: &mut [f64]) {
+    match alpha {
+        None => device.load_residual(rhs),
+        Some(a) => device.load_residual_tran(rhs, a),
+    }
+}
+
+fn load_jacobian(device: &Mosfet1, alpha: Option<f64>, matrix: &mut MnaMatrix) {
+    match alpha {
+        None => device.load_jacobian(matrix),
+        Some(a) => device.load_jacobian_tran(matrix, a),
+    }
+}
+
+/// The values after a load into a matrix that has the kept cells alone, each filled from its place and written back there.
+fn loaded_at(device: &Mosfet1, alpha: Option<f64>, kept: &[(Position, u64)], values: &[f64]) -> Vec<f64> {
+    let cells: Vec<(usize, usize, usize)> = kept
+        .iter()
+        .filter_map(|((r, c), place)| Some(((*r)?, (*c)?, *place as usize)))
+        .filter(|(_, _, place)| *place < values.len())
+        .collect();
+    let mut made = MnaMatrix::zeros(cells.iter().map(|(r, _, _)| r + 1).max().unwrap_or(0));
+    for (r, c, place) in &cells {
+        made.a[*r][*c] = values[*place];
+    }
+    load_jacobian(device, alpha, &mut made);
+    let mut loaded = values.to_vec();
+    for (r, c, place) in &cells {
+        loaded[*place] = made.a[*r][*c];
+    }
+    loaded
+}
+
 /// The matrix's values after the load. The Rust writes a cell by searching its row, or at a place that it found once for a pattern:
 /// both ways are taken and must give the same.
 fn loaded(device: &mut Mosfet1, alpha: Option<f64>, matrix: &Matrix) -> Vec<f64> {
@@ -152,7 +222,7 @@ fn loaded(device: &mut Mosfet1, alpha: Option<f64>, matrix: &Matrix) -> Vec<f64>
 }
 
 fn loaded_once(device: &mut Mosfet1, alpha: Option<f64>, matrix: &Matrix, resolve: bool) -> Vec<f64> {
-    let columns: Vec<Vec<u32>> = (0..matrix.rows.len()).map(|r| matrix.row(r).to_vec()).collect();
+    let columns = matrix.all_columns();
     let pattern = Arc::new(pattern_of(&columns));
     if resolve {
         device.resolve_cells(&pattern);
@@ -163,10 +233,7 @@ fn loaded_once(device: &mut Mosfet1, alpha: Option<f64>, matrix: &Matrix, resolv
             made.a[r][*column as usize] = matrix.values[*offset as usize + k];
         }
     }
-    match alpha {
-        None => device.load_jacobian(&mut made),
-        Some(a) => device.load_jacobian_tran(&mut made, a),
-    }
+    load_jacobian(device, alpha, &mut made);
     let mut values = matrix.values.clone();
     for (r, (offset, length)) in matrix.rows.iter().enumerate() {
         let (cols, row) = made.a[r].entries();

@@ -1,8 +1,8 @@
 //! The exports of the archive, as include/mivtolgya.h declares them. A slice is handed over as a pointer and a count; a slice's
 //! pointer is never null, also where it is empty.
 use crate::record::{
-    ConditionsRecord, CountOutcome, DeviceOutcome, DeviceRecord, EvaluationOutcome, EvaluationReply, KeysOutcome, NodesRecord,
-    NoiseOutcome, ReactancesOutcome,
+    Cells, ConditionsRecord, CountOutcome, DeviceOutcome, DeviceRecord, EvaluationOutcome, EvaluationReply, KeysOutcome, NodesRecord,
+    NoiseOutcome, ReactancesOutcome, ResolveOutcome,
 };
 
 // three have no caller here: those by value that stand in place too
@@ -81,4 +81,23 @@ extern "C" {
         length_count: usize,
     ) -> u64;
     pub fn mivtolgya_commit_in_place(device: *mut DeviceRecord, x: *const f64, x_count: usize) -> u64;
+    pub fn mivtolgya_resolve(
+        device: DeviceRecord,
+        columns: *const u32,
+        column_count: usize,
+        offsets: *const usize,
+        offset_count: usize,
+        lengths: *const usize,
+        length_count: usize,
+    ) -> ResolveOutcome;
+    pub fn mivtolgya_load_resolved(
+        device: *const DeviceRecord,
+        transient: u64,
+        alpha: f64,
+        cells: *const Cells,
+        rhs: *mut f64,
+        rhs_count: usize,
+        values: *mut f64,
+        value_count: usize,
+    ) -> u64;
 }

@@ -1,9 +1,10 @@
 //! The SPICE Level-1 MOSFET model, proved: a safe face of `libmivtolgya.a`. It needs no standard library and no heap.
 //!
 //! A [`Device`] owns its record. The calls come in the order card, geometry, scaling, binding, evaluation; load, commit, noise and
-//! reactances follow an evaluation. Every call answers or is refused by a [`Refusal`]; after a refusal the device and every lent
-//! slice hold what they held. The repository's docs/USING.md has the keys with their ranges, the causes of refusals, and what
-//! threads may share.
+//! reactances follow an evaluation. A loop over a large matrix looks the device's [`Cells`] up once, by [`Device::resolve`] after the
+//! binding, and loads by [`Device::load_resolved`]. Every call answers or is refused by a [`Refusal`]; after a refusal the device and
+//! every lent slice hold what they held. The repository's docs/USING.md has the keys with their ranges, the causes of refusals, and
+//! what threads may share.
 //!
 //! ```
 //! use mivtolgya::{Conditions, Device, Method, Node, Polarity};
@@ -151,6 +152,16 @@ pub enum Load {
     Transient(f64),
 }
 
+impl Load {
+    /// The transient flag and alpha.
+    fn numbers(self) -> (u64, f64) {
+        match self {
+            Load::DirectCurrent => (0, 0.0),
+            Load::Transient(alpha) => (1, alpha),
+        }
+    }
+}
+
 /// A noise source.
 #[derive(Clone, Copy, Debug, PartialEq)]
 pub struct Noise {
@@ -292,10 +303,7 @@ impl Device {
 
     /// Adds the device to the right-hand side and the matrix.
     pub fn load(&self, load: Load, rhs: &mut [f64], matrix: Matrix) -> Result<(), Refusal> {
-        let (transient, alpha) = match load {
-            Load::DirectCurrent => (0, 0.0),
-            Load::Transient(alpha) => (1, alpha),
-        };
+        let (transient, alpha) = load.numbers();
         // SAFETY: each pointer and count is a live slice's; both that are written are borrowed mutably, so they overlap none.
         accepted(unsafe {
             mivtolgya_load_in_place(
@@ -312,6 +320,70 @@ impl Device {
                 matrix.offsets.len(),
                 matrix.lengths.as_ptr(),
                 matrix.lengths.len(),
+            )
+        })
+    }
+
+    /// Looks up every cell of a bound device in a matrix, once, for [`load_resolved`](Device::load_resolved). Ask again after each
+    /// binding anew and whenever the pattern changes; no other call changes the answer, and devices with the same six nodes may
+    /// share it. The matrix has as many values as columns. It may lack cells of [`Cells::gate_places`], until a transient load needs
+    /// them.
+    pub fn resolve(&self, columns: &[u32], offsets: &[usize], lengths: &[usize]) -> Result<Cells, Refusal> {
+        // SAFETY: the record by value; each pointer and count is a live slice's, and none is written.
+        let o = unsafe {
+            mivtolgya_resolve(
+                self.record.clone(),
+                columns.as_ptr(),
+                columns.len(),
+                offsets.as_ptr(),
+                offsets.len(),
+                lengths.as_ptr(),
+                lengths.len(),
+            )
+        };
+        accepted(o.refusal)?;
+        Ok(o.cells)
+    }
+
+    /// [`load`](Device::load) on the pattern that `cells` was resolved for, with the same answer and the same two slices, but without
+    /// the pattern and without a search: the time does not grow with the matrix.
+    ///
+    /// Refused are cells of another binding ([`Refusal::MissingCell`]), another count of values ([`Refusal::Pattern`]), and numbers
+    /// that no pattern has, whatever they are. Not noticed is a pattern that was changed after the cells were resolved and has as
+    /// many values as before: what is added goes where the cells lay before.
+    ///
+    /// ```
+    /// # use mivtolgya::*;
+    /// # fn main() -> Result<(), Refusal> {
+    /// # let (mut device, _) = Device::from_model_params(Polarity::Nmos, &[("vto", 1.0), ("kp", 2.0)], &mut [])?;
+    /// # device.set_instance_params(&[], &mut [])?;
+    /// # device.setup_model(300.15)?;
+    /// # let at = Conditions { temperature: 300.15, gmin: 0.0, limiter: false, transient: false, method: Method::None };
+    /// # let (mut rhs, mut values) = ([0.0; 2], [0.0; 4]);
+    /// device.setup_instance(Node::Row(0), Node::Row(1), Node::Ground, Node::Ground, 2)?;
+    /// let cells = device.resolve(&[0, 1, 0, 1], &[0, 2], &[2, 2])?;
+    /// for x in [[1.0, 3.0], [1.0, 2.5]] {
+    ///     device.eval(&x, at)?;
+    ///     rhs.fill(0.0);
+    ///     values.fill(0.0);
+    ///     device.load_resolved(Load::DirectCurrent, &cells, &mut rhs, &mut values)?;
+    /// }
+    /// # Ok(())
+    /// # }
+    /// ```
+    pub fn load_resolved(&self, load: Load, cells: &Cells, rhs: &mut [f64], values: &mut [f64]) -> Result<(), Refusal> {
+        let (transient, alpha) = load.numbers();
+        // SAFETY: as for a load; the cells are only read.
+        accepted(unsafe {
+            mivtolgya_load_resolved(
+                &self.record,
+                transient,
+                alpha,
+                cells,
+                rhs.as_mut_ptr(),
+                rhs.len(),
+                values.as_mut_ptr(),
+                values.len(),
             )
         })
     }

@@ -28,6 +28,11 @@ pub const METHOD_TRAPEZOID: u64 = 2;
 /// Tag of a method: Gear of second order.
 pub const METHOD_GEAR: u64 = 3;
 
+/// In place of a number of [`Cells`]: the node, or an end of the cell, is ground.
+pub const CELL_GROUND: usize = usize::MAX;
+/// In place of a number of [`Cells`]: the pattern has no such cell.
+pub const CELL_ABSENT: usize = usize::MAX - 1;
+
 /// Stage of a device: its card was read.
 pub const STAGE_CARD: u64 = 1;
 /// Stage of a device: its geometry was set.
@@ -327,4 +332,30 @@ pub struct ReactancesOutcome {
     pub gb: ReactanceRecord,
     pub bs: ReactanceRecord,
     pub bd: ReactanceRecord,
+}
+
+/// Where the cells of a bound device lie in a matrix, as [`Device::resolve`](crate::Device::resolve) answers it: for the nodes of one
+/// binding, and for one pattern. Hold it beside the device.
+#[repr(C)]
+#[derive(Clone, Copy, Debug, PartialEq, Eq)]
+pub struct Cells {
+    /// The rows of the outer drain, outer source, drain, gate, source and bulk, [`CELL_GROUND`] for ground.
+    pub nodes: [usize; 6],
+    /// How many rows the pattern has.
+    pub rows: usize,
+    /// How many values the pattern has.
+    pub values: usize,
+    /// Where the values lie that every load adds to: with D and S for the outer nodes dg dd ds db, sg sd ss sb, DD Dd dD dd,
+    /// SS Ss sS ss, bb bs sb ss, bb bd db dd. [`CELL_GROUND`] where an end is ground.
+    pub places: [usize; 24],
+    /// gg gs gd gb bg, for the gate's capacitances. [`CELL_ABSENT`] where the pattern has no such cell.
+    pub gate_places: [usize; 5],
+}
+
+/// The cells, and the number of the refusal. A refused call's cells are zeros.
+#[repr(C)]
+#[derive(Clone, Copy, Debug)]
+pub struct ResolveOutcome {
+    pub refusal: u64,
+    pub cells: Cells,
 }

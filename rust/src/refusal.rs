@@ -57,10 +57,10 @@ refusals! {
     Stage = 10, "the call comes too early or too late";
     /// A step, or alpha where there is no step, is out of range.
     Step = 11, "a step or alpha is out of range";
-    /// The matrix is not laid out as it must be.
-    Pattern = 12, "the matrix is not laid out as it must be";
-    /// The matrix has no place for a value.
-    MissingCell = 13, "the matrix has no place for a value";
+    /// The matrix is not laid out as it must be, or has another count of values than the cells were resolved for.
+    Pattern = 12, "the matrix is not laid out as it must be, or not as it was resolved";
+    /// The matrix has no place for a value, or the cells were resolved for another binding.
+    MissingCell = 13, "the matrix has no place for a value, or the cells are another binding's";
     /// An unknown tag, or memory that is no device. It cannot happen through this wrapper.
     Tag = 100, "an unknown tag, or memory that is no device";
     /// The archive has another interface than this wrapper.

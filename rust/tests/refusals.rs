@@ -3,13 +3,6 @@ mod common;
 use common::*;
 use mivtolgya::*;
 
-/// A call that must be refused under this name and change nothing of the device.
-fn refused<T: std::fmt::Debug>(expected: Refusal, device: &mut Device, call: impl FnOnce(&mut Device) -> Result<T, Refusal>) {
-    let before = bits(device);
-    assert_eq!(call(device).err(), Some(expected));
-    assert_eq!(bits(device), before);
-}
-
 fn laid_out(offsets: &[usize], lengths: &[usize], values: &[f64]) -> Option<Refusal> {
     let keys = Keys { bytes: b"vtokp", offsets, lengths, values };
     let mut unknown = [7; 2];

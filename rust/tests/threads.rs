@@ -10,9 +10,11 @@ const THREADS: usize = 4;
 #[test]
 fn one_device_is_loaded_from_many_threads() {
     let device = evaluated(Method::Euler(1e-9));
+    let cells = device.resolve(&[0, 1, 0, 1], &[0, 2], &[2, 2]).unwrap();
     let one_load = || {
         let (mut rhs, mut values) = ([0.0; 2], [0.0; 4]);
         load(&device, Load::Transient(0.0), &mut rhs, &mut values).unwrap();
+        device.load_resolved(Load::Transient(0.0), &cells, &mut rhs, &mut values).unwrap();
         (rhs.map(f64::to_bits), values.map(f64::to_bits))
     };
     let expected = one_load();

@@ -4,10 +4,11 @@ import re
 
 from . import texts
 from .run import ARCHIVE, expect, readme_program, run, there, write
-from .sources import NUMBERS, read, size
+from .sources import NUMBERS, array, read, size
 
 WARNINGS = ["-Wall", "-Wextra", "-Wpedantic", "-Wconversion", "-Werror"]
 SANITIZERS = ["-g", "-O1", "-fsanitize=address,undefined", "-fno-sanitize-recover=all"]
+EXAMPLES = ["example", "loop"]
 C11 = ["gcc", "-std=c11", "-O2", *WARNINGS, "-Iinclude"]
 
 
@@ -25,10 +26,13 @@ def layout(all_records):
     for name, fields in all_records.items():
         at = 0
         for field, kind in fields:
+            element, _ = array(kind) or (kind, 1)
+            bytes_of = size(kind, all_records)
             yield f'_Static_assert(offsetof({c_name(name)}, {field}) == {at}, "{name}.{field}");'
-            yield f"{c_type(kind)} *at_{name}_{field}({c_name(name)} *r);"
-            yield f"{c_type(kind)} *at_{name}_{field}({c_name(name)} *r) {{ return &r->{field}; }}"
-            at += size(kind, all_records)
+            yield f'_Static_assert(sizeof((({c_name(name)} *)0)->{field}) == {bytes_of}, "size of {name}.{field}");'
+            yield f"{c_type(element)} *at_{name}_{field}({c_name(name)} *r);"
+            yield f"{c_type(element)} *at_{name}_{field}({c_name(name)} *r) {{ return {'' if array(kind) else '&'}r->{field}; }}"
+            at += bytes_of
         yield f'_Static_assert(sizeof({c_name(name)}) == {at}, "{name}");'
 
 
@@ -52,7 +56,8 @@ def check_header(folder, all_records, all_exports):
     lines = ["#include <mivtolgya.h>", *layout(all_records), *prototypes(all_exports)]
     run(*C11, "-c", write(folder, "layout.c", "\n".join(lines) + "\n"), "-o", os.path.join(folder, "layout.o"))
     for standard in ("c99", "c11"):
-        run("gcc", f"-std={standard}", "-O2", *WARNINGS, "-Iinclude", "-c", "c/example.c", "-o", os.path.join(folder, "example.o"))
+        for name in EXAMPLES:
+            run("gcc", f"-std={standard}", "-O2", *WARNINGS, "-Iinclude", "-c", f"c/{name}.c", "-o", os.path.join(folder, "example.o"))
     print("callers: the header has the sources' layout and prototypes, and passes C99 and C11 without a warning")
 
 
@@ -66,13 +71,15 @@ def check_archive():
     print("callers: the archive needs memcpy alone and has no writable data")
 
 
-def check_example(folder, compiler, standard, language):
+def check_examples(folder, compiler, standard, language):
     binary = os.path.join(folder, "example")
-    run(compiler, f"-std={standard}", *SANITIZERS, *WARNINGS, "-Iinclude", "-x", language, "c/example.c", "-x", "none", ARCHIVE, "-o", binary)
     # there is no heap to look for leaks in, and the search for them is not allowed everywhere
     surroundings = {**os.environ, "ASAN_OPTIONS": "detect_leaks=0"}
-    expect(f"c/example.c by {compiler}", run(binary, env=surroundings), read("c/example.stdout"))
-    print(f"callers: c/example.c, {standard} by {compiler} with sanitizers")
+    for name in EXAMPLES:
+        source = ("-x", language, f"c/{name}.c", "-x", "none")
+        run(compiler, f"-std={standard}", *SANITIZERS, *WARNINGS, "-Iinclude", *source, ARCHIVE, "-o", binary)
+        expect(f"c/{name}.c by {compiler}", run(binary, env=surroundings), read(f"c/{name}.stdout"))
+    print(f"callers: {' and '.join(f'c/{name}.c' for name in EXAMPLES)}, {standard} by {compiler} with sanitizers")
 
 
 def check_program(folder, name):
@@ -197,11 +204,11 @@ def check(folder, all_records, all_exports, listed):
         return
     check_header(folder, all_records, all_exports)
     check_archive()
-    check_example(folder, "gcc", "c99", "c")
+    check_examples(folder, "gcc", "c99", "c")
     if there("g++"):
-        check_example(folder, "g++", "c++17", "c++")
+        check_examples(folder, "g++", "c++17", "c++")
     else:
-        print("callers: g++ is missing: the example was not tried in C++")
+        print("callers: g++ is missing: the examples were not tried in C++")
     check_keys(folder, listed)
     check_unfit(folder)
     check_stack(folder)

@@ -16,12 +16,24 @@ def code(path):
     return re.sub(r"(--|//).*", "", read(path))
 
 
+# The numbers of resolved cells are an array in the sources; header and wrapper give them names, in the order of crates/resolve/specs.
+CELL_NUMBERS = "[usize; 37]"
+CELLS = [("nodes", "[usize; 6]"), ("rows", "usize"), ("values", "usize"), ("places", "[usize; 24]"), ("gate_places", "[usize; 5]")]
+
+
+def with_cells(path):
+    return read(path).replace(CELL_NUMBERS, "Cells")
+
+
 def records():
     """Every #[repr(C)] struct: its name to its fields in order, each (name, type)."""
     found = {}
     for path in sorted(glob.glob("crates/*/src/*.rt")):
-        for name, body in re.findall(r"#\[repr\(C\)\]\npub struct (\w+) \{\n(.*?)\n\}", read(path), re.S):
-            found[name] = [tuple(f.strip().rstrip(",").removeprefix("pub ").split(": ")) for f in body.split("\n")]
+        for name, body in re.findall(r"#\[repr\(C\)\]\npub struct (\w+) \{(.*?)\}", with_cells(path), re.S):
+            fields = filter(None, (f.strip() for f in re.split(r"[,\n]", body)))
+            found[name] = [tuple(f.removeprefix("pub ").split(": ")) for f in fields]
+    if any(kind == "Cells" for fields in found.values() for _, kind in fields):
+        found["Cells"] = CELLS
     return found
 
 
@@ -29,13 +41,22 @@ def exports():
     """Every exported function: its name to (parameters, result), each parameter (name, type)."""
     found = {}
     for path in sorted(glob.glob("crates/mivtolgya/src/*.rt")):
-        for name, body, result in re.findall(r'pub extern "C" fn (\w+)\((.*?)\) -> (\w+)', read(path), re.S):
+        for name, body, result in re.findall(r'pub extern "C" fn (\w+)\((.*?)\) -> (?:\w+::)?(\w+)', with_cells(path), re.S):
             parts = filter(None, (p.strip() for p in body.replace("\n", " ").split(",")))
             found[name] = ([tuple(p.split(": ")) for p in parts], result)
     return found
 
 
+def array(kind):
+    """The type of an array's elements and their count, none of another type."""
+    found = re.fullmatch(r"\[(\w+); (\d+)\]", kind)
+    return found and (found[1], int(found[2]))
+
+
 def size(kind, all_records):
+    if array(kind):
+        element, count = array(kind)
+        return count * size(element, all_records)
     return 8 if kind in NUMBERS else sum(size(k, all_records) for _, k in all_records[kind])
 
 
@@ -55,6 +76,11 @@ def tags():
     return found
 
 
+def marks():
+    """The numbers of a place that is skipped, ground's, and of one that is missing."""
+    return {n: int(k) for n, k in re.findall(r"^(skipped|missing)Number = (\d+)", code("crates/places/specs/Places.antt"), re.M)}
+
+
 # the definitions that list a call's rows
 ROWS = {
     "card": ["entries/specs/Entries keyRows", "card/specs/Card cardRows"],
@@ -63,6 +89,8 @@ ROWS = {
     "binding": ["setup/specs/Binding bindingRows"],
     "evaluation": ["rows/specs/Rows evalRows"],
     "load": ["loading/specs/Loading loadRows"],
+    "resolving": ["resolve/specs/Resolve resolveRows"],
+    "resolved load": ["load_resolved/specs/LoadResolved loadResolvedRows"],
     "commit": ["rows/specs/Rows commitRows"],
     "noise": ["rows/specs/Rows noiseRows"],
     "reactances": ["rows/specs/Rows reactanceRows"],

@@ -49,11 +49,22 @@ def check_numbers():
 def check_records(all_records):
     """Every record stands in the wrapper word for word, and no other does. (The header's are held by the C compiler.)"""
     found = re.findall(r"#\[repr\(C\)\]\n#\[derive\((.*?)\)\]\npub struct (\w+) \{\n(.*?)\n\}", read(RECORDS), re.S)
-    wrapper = {n: [tuple(f.strip().rstrip(",").removeprefix("pub ").split(": ")) for f in body.split("\n")] for _, n, body in found}
+    lines = {n: (f.strip() for f in body.split("\n")) for _, n, body in found}
+    wrapper = {n: [tuple(f.rstrip(",").removeprefix("pub ").split(": ")) for f in fs if f.startswith("pub ")] for n, fs in lines.items()}
     same("records of wrapper and sources", wrapper, all_records)
     for traits, name, _ in found:
         holds_device = name == "DeviceRecord" or any(kind == "DeviceRecord" for _, kind in all_records[name])
-        same(f"traits of {name}", traits, "Clone, Debug" if holds_device else "Clone, Copy, Debug")
+        expected = "Clone, Debug" if holds_device else "Clone, Copy, Debug"
+        same(f"traits of {name}", traits, expected + (", PartialEq, Eq" if name == "Cells" else ""))
+
+
+def check_marks():
+    """The two numbers that stand in place of a place, in header and wrapper, are the sources'."""
+    same("marks of the sources", sources.marks(), {"skipped": 2**64 - 1, "missing": 2**64 - 2})
+    header = dict(re.findall(r"#define MIVTOLGYA_(CELL_\w+) (.+)", read(HEADER)))
+    same("marks of the header", header, {"CELL_GROUND": "SIZE_MAX", "CELL_ABSENT": "(SIZE_MAX - 1)"})
+    wrapper = dict(re.findall(r"pub const (CELL_\w+): usize = (.+);", read(RECORDS)))
+    same("marks of the wrapper", wrapper, {"CELL_GROUND": "usize::MAX", "CELL_ABSENT": "usize::MAX - 1"})
 
 
 def rust_parameters(parameters):
@@ -131,6 +142,7 @@ def check_keys(text):
 def check(all_records, all_exports):
     names, refused = check_numbers()
     check_records(all_records)
+    check_marks()
     check_exports(all_exports)
     check_refusals(read(USING))
     listed = check_keys(read(USING))

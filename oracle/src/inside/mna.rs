@@ -1,6 +1,11 @@
 //! Within mna.rs.
 
-use super::{Pattern, PatternBuilder};
+use super::{Cell, Pattern, PatternBuilder};
+
+/// A found cell's row and its place in that row.
+pub fn row_and_slot(cell: Cell) -> (usize, usize) {
+    (cell.row as usize, cell.slot as usize)
+}
 
 /// The pattern with these columns in its rows, which rise in each row.
 pub fn pattern_of(rows: &[Vec<u32>]) -> Pattern {

@@ -3,6 +3,7 @@
 use super::Mosfet1;
 use crate::device::NodeId;
 use crate::format::Written;
+use crate::mna::inside::row_and_slot;
 
 include!(concat!(env!("OUT_DIR"), "/views.rs"));
 
@@ -46,6 +47,12 @@ impl Mosfet1 {
                 (b, d, self.cbd_eval),
             ],
         }
+    }
+
+    /// The rows and slots that `resolve_cells` found for the 24 pairs.
+    pub fn resolved_places(&self) -> [Option<(usize, usize)>; 24] {
+        let (_, cells) = self.jac_cells.as_ref().expect("resolved before");
+        cells.map(|cell| cell.map(row_and_slot))
     }
 
     /// An evaluation's threshold: the bulk's and the source's voltages, flipped by polarity, in the Rust's own lines.

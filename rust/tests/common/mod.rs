@@ -39,6 +39,13 @@ pub fn load(device: &Device, load: Load, rhs: &mut [f64; 2], values: &mut [f64; 
     device.load(load, rhs, Matrix { values, columns: &[0, 1, 0, 1], offsets: &[0, 2], lengths: &[2, 2] })
 }
 
+/// A call that must be refused under this name and change nothing of the device.
+pub fn refused<T: std::fmt::Debug>(expected: Refusal, device: &mut Device, call: impl FnOnce(&mut Device) -> Result<T, Refusal>) {
+    let before = bits(device);
+    assert_eq!(call(device).err(), Some(expected));
+    assert_eq!(bits(device), before);
+}
+
 /// Every number of a device by its bits.
 pub fn bits(device: &Device) -> Vec<u64> {
     let record = device.record();
