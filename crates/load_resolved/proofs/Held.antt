@@ -46,7 +46,7 @@ stored-append n (c ∷ cs) ds (p ∷ ps) qs e =
     ap (λ (b : Bool). (grounded (c .position) || ltb p n) && b) (stored-append n cs ds ps qs (suc-inj e))
     ∙ and-move (grounded (c .position) || ltb p n) (allStored n cs ps) (allStored n ds qs)
 
-length-append : (cs ds : List Contribution) (ps qs : List ℕ) → length cs ≡ length ps → length ds ≡ length qs → length (cs ++ ds) ≡ length (ps ++ qs)
+pub length-append : (cs ds : List Contribution) (ps qs : List ℕ) → length cs ≡ length ps → length ds ≡ length qs → length (cs ++ ds) ≡ length (ps ++ qs)
 length-append [] ds [] qs e f = f
 length-append [] ds (p ∷ ps) qs e f = absurd (omega arith)
 length-append (c ∷ cs) ds [] qs e f = absurd (omega arith)

@@ -286,13 +286,7 @@ fn early_row(d: Mosfet1, kind: LoadKind, rhs: usize, values: usize, rows: usize,
 }
 
 // The row that refuses a load into a right-hand side of so many rows and so many values, 0 where none does.
-pub fn resolved_row(
-    d: Mosfet1,
-    kind: LoadKind,
-    cells: &[usize; 37],
-    rhs: usize,
-    values: usize,
-) -> u8
+fn resolved_row(d: Mosfet1, kind: LoadKind, cells: &[usize; 37], rhs: usize, values: usize) -> u8
     ensures { λ r. ⌜ r ≡ resolvedRowOf d kind (now (cells .entry)) rhs values ⌝ }
 {
     let rows = cells[6];
@@ -530,8 +524,8 @@ fn charge_branches(d: Mosfet1, alpha: f64) -> ChargeBranches
     }
 }
 
-// `load_jacobian` and `load_residual`. It serves the load, which has asked for the rows before.
-pub fn add_static(d: Mosfet1, cells: &[usize; 37], rhs: &mut [f64], values: &mut [f64])
+// `load_jacobian` and `load_residual`; the rows were asked for before.
+fn add_static(d: Mosfet1, cells: &[usize; 37], rhs: &mut [f64], values: &mut [f64])
     ensures { λ r. ⌜ (now (values .exit) ≡ addStored (paired (jacPairsOf (terminalsAt (nodesOf (d .terminals)))) (jacValuesOf d)) (numbersFrom (now (cells .entry)) 8 24) (now (values .entry)))
         × (now (rhs .exit) ≡ addSources (offsetSources (terminalsAt (nodesOf (d .terminals))) (residualOf d)) (now (rhs .entry))) ⌝ }
 {
@@ -542,7 +536,7 @@ pub fn add_static(d: Mosfet1, cells: &[usize; 37], rhs: &mut [f64], values: &mut
 }
 
 // What `load_jacobian_tran` and `load_residual_tran` add to that: the charge branches.
-pub fn add_charges(d: Mosfet1, alpha: f64, cells: &[usize; 37], rhs: &mut [f64], values: &mut [f64])
+fn add_charges(d: Mosfet1, alpha: f64, cells: &[usize; 37], rhs: &mut [f64], values: &mut [f64])
     ensures { λ r. ⌜ (now (values .exit) ≡ addBranchesStored (nodesOf (d .terminals)) (now (cells .entry)) (chargeBranchesOf d alpha) (now (values .entry)))
         × (now (rhs .exit) ≡ addSources (historySources (nodesOf (d .terminals)) (chargeBranchesOf d alpha)) (now (rhs .entry))) ⌝ }
 {

@@ -95,7 +95,7 @@ pub fn load_resolved(
         × ((now (rhs .exit) ≡ resolvedSide r transient alpha (now (cells .entry)) (now (rhs .entry)) (now (values .entry)))
         × (now (values .exit) ≡ resolvedMatrix r transient alpha (now (cells .entry)) (now (rhs .entry)) (now (values .entry)))) ⌝ }
 {
-    if !from_record::good_tags(r) {
+    if !from_record::good_tags_at_once(r) {
         return 100;
     }
     if 1 < transient {

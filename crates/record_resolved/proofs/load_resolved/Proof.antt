@@ -9,21 +9,21 @@ use Rattle.record_resolved.proofs.load_resolved.Tie as tie
 use Rattle.record_resolved.proofs.load_resolved.Reads as reads
 use Rattle.record_resolved.proofs.load_resolved.Lts as lts
 use Rattle.from_record.proofs.device_from.Reads as device-from-reads
-use Rattle.from_record.proofs.good_tags.Reads as good-tags-reads
+use Rattle.from_record.proofs.good_tags.Reads as good-tags-at-once-reads
 use Rattle.load_resolved.proofs.load_resolved.Reads as load-resolved-reads
 use Rattle.record_loading.proofs.kind_from.Reads as kind-from-reads
 use Rattle.record_loading.proofs.load_number.Reads as load-number-reads
 
-good-tags-requires : tie.Need-good-tags-requires
-good-tags-requires c κs = search needs
+good-tags-at-once-requires : tie.Need-good-tags-at-once-requires
+good-tags-at-once-requires c κs = search needs
 
 returns : tie.Need-returns
 unfolding goodLoad loadResolvedCall resolvedSide resolvedMatrix
-returns c = (rw (← c .before .good-tags .ensures, not-true (c .before .good-tags .result) (c .if1 .taken)), (rw (← c .before .good-tags .ensures, not-true (c .before .good-tags .result) (c .if1 .taken)), rw (← c .before .good-tags .ensures, not-true (c .before .good-tags .result) (c .if1 .taken))))
+returns c = (rw (← c .before .good-tags-at-once .ensures, not-true (c .before .good-tags-at-once .result) (c .if1 .taken)), (rw (← c .before .good-tags-at-once .ensures, not-true (c .before .good-tags-at-once .result) (c .if1 .taken)), rw (← c .before .good-tags-at-once .ensures, not-true (c .before .good-tags-at-once .result) (c .if1 .taken))))
 
 returns-2 : tie.Need-returns-2
 unfolding goodLoad loadResolvedCall resolvedSide resolvedMatrix
-returns-2 c = (rw (← c .before .before .good-tags .ensures, not-false (c .before .before .good-tags .result) (c .before .if1 .left), lt-leb _ 1 (c .if2 .taken)), (rw (← c .before .before .good-tags .ensures, not-false (c .before .before .good-tags .result) (c .before .if1 .left), lt-leb _ 1 (c .if2 .taken)), rw (← c .before .before .good-tags .ensures, not-false (c .before .before .good-tags .result) (c .before .if1 .left), lt-leb _ 1 (c .if2 .taken))))
+returns-2 c = (rw (← c .before .before .good-tags-at-once .ensures, not-false (c .before .before .good-tags-at-once .result) (c .before .if1 .left), lt-leb _ 1 (c .if2 .taken)), (rw (← c .before .before .good-tags-at-once .ensures, not-false (c .before .before .good-tags-at-once .result) (c .before .if1 .left), lt-leb _ 1 (c .if2 .taken)), rw (← c .before .before .good-tags-at-once .ensures, not-false (c .before .before .good-tags-at-once .result) (c .before .if1 .left), lt-leb _ 1 (c .if2 .taken))))
 
 device-from-requires : tie.Need-device-from-requires
 device-from-requires c κs = search needs
@@ -45,13 +45,13 @@ same-length-2 c = search needs
 
 returns-3 : tie.Need-returns-3
 unfolding goodLoad loadResolvedCall resolvedSide resolvedMatrix
-returns-3 c = (rw (c .load-number .ensures, c .before .before .before .before .before .load-resolved .ensures .answer, c .before .before .before .before .before .before .before .before .kind-from .ensures, c .before .before .before .before .before .before .before .before .before .device-from .ensures, ← c .before .before .before .before .before .before .before .before .before .before .before .before .good-tags .ensures, not-false (c .before .before .before .before .before .before .before .before .before .before .before .before .good-tags .result) (c .before .before .before .before .before .before .before .before .before .before .before .if1 .left), le-leb _ 1 (c .before .before .before .before .before .before .before .before .before .before .if2 .left)), (c .before .before .before .before .before .load-resolved .ensures .side ∙ rw (c .before .before .before .before .before .load-resolved .ensures .answer, c .before .before .before .before .before .before .before .before .kind-from .ensures, c .before .before .before .before .before .before .before .before .before .device-from .ensures, ← c .before .before .before .before .before .before .before .before .before .before .before .before .good-tags .ensures, not-false (c .before .before .before .before .before .before .before .before .before .before .before .before .good-tags .result) (c .before .before .before .before .before .before .before .before .before .before .before .if1 .left), le-leb _ 1 (c .before .before .before .before .before .before .before .before .before .before .if2 .left)), c .before .before .before .before .before .load-resolved .ensures .matrix ∙ rw (c .before .before .before .before .before .load-resolved .ensures .answer, c .before .before .before .before .before .before .before .before .kind-from .ensures, c .before .before .before .before .before .before .before .before .before .device-from .ensures, ← c .before .before .before .before .before .before .before .before .before .before .before .before .good-tags .ensures, not-false (c .before .before .before .before .before .before .before .before .before .before .before .before .good-tags .result) (c .before .before .before .before .before .before .before .before .before .before .before .if1 .left), le-leb _ 1 (c .before .before .before .before .before .before .before .before .before .before .if2 .left))))
+returns-3 c = (rw (c .load-number .ensures, c .before .before .before .before .before .load-resolved .ensures .answer, c .before .before .before .before .before .before .before .before .kind-from .ensures, c .before .before .before .before .before .before .before .before .before .device-from .ensures, ← c .before .before .before .before .before .before .before .before .before .before .before .before .good-tags-at-once .ensures, not-false (c .before .before .before .before .before .before .before .before .before .before .before .before .good-tags-at-once .result) (c .before .before .before .before .before .before .before .before .before .before .before .if1 .left), le-leb _ 1 (c .before .before .before .before .before .before .before .before .before .before .if2 .left)), (c .before .before .before .before .before .load-resolved .ensures .side ∙ rw (c .before .before .before .before .before .load-resolved .ensures .answer, c .before .before .before .before .before .before .before .before .kind-from .ensures, c .before .before .before .before .before .before .before .before .before .device-from .ensures, ← c .before .before .before .before .before .before .before .before .before .before .before .before .good-tags-at-once .ensures, not-false (c .before .before .before .before .before .before .before .before .before .before .before .before .good-tags-at-once .result) (c .before .before .before .before .before .before .before .before .before .before .before .if1 .left), le-leb _ 1 (c .before .before .before .before .before .before .before .before .before .before .if2 .left)), c .before .before .before .before .before .load-resolved .ensures .matrix ∙ rw (c .before .before .before .before .before .load-resolved .ensures .answer, c .before .before .before .before .before .before .before .before .kind-from .ensures, c .before .before .before .before .before .before .before .before .before .device-from .ensures, ← c .before .before .before .before .before .before .before .before .before .before .before .before .good-tags-at-once .ensures, not-false (c .before .before .before .before .before .before .before .before .before .before .before .before .good-tags-at-once .result) (c .before .before .before .before .before .before .before .before .before .before .before .if1 .left), le-leb _ 1 (c .before .before .before .before .before .before .before .before .before .before .if2 .left))))
 
 pub load-resolved-spec : {M : Type 1} → statement M
 load-resolved-spec =
     tie.close
     (tie.spec
-    good-tags-requires
+    good-tags-at-once-requires
     returns
     returns-2
     device-from-requires

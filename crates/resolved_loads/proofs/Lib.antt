@@ -1,0 +1,2 @@
+pub mod SamePlaces
+pub mod ResolvedLoads
