@@ -29,6 +29,8 @@ pub enum Command {
     Changing(Change),
     Asking(Question),
     Load,
+    Resolve,
+    LoadResolved,
     Reset,
 }
 
@@ -74,6 +76,12 @@ fn counted(name: &[u8], words: usize) -> Command {
     }
     if same(name, b"load") && words == 6 {
         return Command::Load;
+    }
+    if same(name, b"resolve") && words == 3 {
+        return Command::Resolve;
+    }
+    if same(name, b"loadresolved") && words == 4 {
+        return Command::LoadResolved;
     }
     if same(name, b"reset") && words == 1 {
         return Command::Reset;

@@ -7,13 +7,13 @@ use crate::device_calls;
 use crate::function_calls;
 use crate::key_calls;
 use crate::key_calls::Reader;
-use crate::key_calls::Told;
 use crate::key_calls::card_of;
 use crate::load_calls;
 use crate::replies;
 use crate::replies::Outcome;
 use crate::replies::Reply;
 use crate::replies::Session;
+use crate::replies::Told;
 use card::CardAnswer;
 use device::Mosfet1;
 use script::word::word;
@@ -24,13 +24,10 @@ pub struct Answered {
     pub end: usize,
 }
 
-// A session with no device. A card with no keys is never refused.
+// The first session again. A card with no keys is never refused.
 pub fn forget(session: Session) -> Session {
     match card::from_model_params(false, &[], &[], &[], &[], &mut []) {
-        CardAnswer::Done(device, _) => Session {
-            device,
-            present: false,
-        },
+        CardAnswer::Done(device, _) => replies::first_session(device),
         CardAnswer::Refused(_) => session,
     }
 }
@@ -73,10 +70,8 @@ fn change(session: Session, change: Change, line: &[u8], out: &mut [u8]) -> Answ
     let o = changed(before, change, line);
     let device = o.device;
     let reply = o.reply;
-    let after = Session {
-        device,
-        present: session.present,
-    };
+    let mut after = session;
+    after.device = device;
     replied(after, reply, out)
 }
 
@@ -117,6 +112,18 @@ fn load(session: Session, line: &[u8], out: &mut [u8]) -> Answered {
     Answered { session, end }
 }
 
+fn resolve(session: Session, line: &[u8], out: &mut [u8]) -> Answered {
+    let t = load_calls::resolve(session, line);
+    let reply = t.reply;
+    let after = t.session;
+    replied(after, reply, out)
+}
+
+fn load_resolved(session: Session, line: &[u8], out: &mut [u8]) -> Answered {
+    let end = load_calls::load_resolved(session, line, out);
+    Answered { session, end }
+}
+
 // What a line answers: the answer's text stands in out from its start on, and is empty for a line without an answer.
 pub fn answer(session: Session, line: &[u8], out: &mut [u8]) -> Answered {
     match command_of(line) {
@@ -126,6 +133,8 @@ pub fn answer(session: Session, line: &[u8], out: &mut [u8]) -> Answered {
         Command::Changing(c) => change(session, c, line, out),
         Command::Asking(q) => replied(session, asked(session, q, line), out),
         Command::Load => load(session, line, out),
+        Command::Resolve => resolve(session, line, out),
+        Command::LoadResolved => load_resolved(session, line, out),
         Command::Reset => replied(forget(session), Reply::Reset, out),
     }
 }

@@ -2,6 +2,8 @@
 use crate::key_lists;
 use crate::replies::Reply;
 use crate::replies::Session;
+use crate::replies::Told;
+use crate::replies::tell;
 use card::CardAnswer;
 use device::Mosfet1;
 use geometry::GeometryAnswer;
@@ -15,12 +17,6 @@ use script::word::word;
 use script::word::word_count;
 use script_lists::Count;
 ghost use Prim.Native.Nat.{_≤_};
-
-// The session that a call leaves, and what it answers.
-pub struct Told {
-    pub session: Session,
-    pub reply: Reply,
-}
 
 // What the keys are handed to.
 pub enum Reader {
@@ -41,16 +37,11 @@ pub fn card_of(w: &[u8]) -> Reader {
     Reader::Unnamed
 }
 
-fn unchanged(session: Session, reply: Reply) -> Told {
-    Told { session, reply }
-}
-
-fn made(device: Mosfet1, reply: Reply) -> Told {
-    let session = Session {
-        device,
-        present: true,
-    };
-    Told { session, reply }
+fn made(session: Session, device: Mosfet1, reply: Reply) -> Told {
+    let mut next = session;
+    next.device = device;
+    next.present = true;
+    tell(next, reply)
 }
 
 fn card_call(
@@ -63,17 +54,17 @@ fn card_call(
     unknown: &mut [usize],
 ) -> Told {
     match card::from_model_params(is_pmos, bytes, offsets, lengths, values, unknown) {
-        CardAnswer::Done(device, count) => made(device, Reply::Card(count)),
-        CardAnswer::Refused(row) => unchanged(session, Reply::Refused(row)),
+        CardAnswer::Done(device, count) => made(session, device, Reply::Card(count)),
+        CardAnswer::Refused(row) => tell(session, Reply::Refused(row)),
     }
 }
 
 // A device that is not present accepts no geometry.
 fn sized(session: Session, device: Mosfet1, count: usize) -> Told {
     if session.present {
-        return made(device, Reply::Geometry(count));
+        return made(session, device, Reply::Geometry(count));
     }
-    unchanged(session, Reply::Refused(10))
+    tell(session, Reply::Refused(10))
 }
 
 fn geometry_call(
@@ -87,7 +78,7 @@ fn geometry_call(
     let before = session.device;
     match geometry::set_instance_params(before, bytes, offsets, lengths, values, unknown) {
         GeometryAnswer::Done(device, count) => sized(session, device, count),
-        GeometryAnswer::Refused(row) => unchanged(session, Reply::Refused(row)),
+        GeometryAnswer::Refused(row) => tell(session, Reply::Refused(row)),
     }
 }
 
@@ -104,7 +95,7 @@ fn call(
         Reader::Nmos => card_call(session, false, bytes, offsets, lengths, values, unknown),
         Reader::Pmos => card_call(session, true, bytes, offsets, lengths, values, unknown),
         Reader::Geometry => geometry_call(session, bytes, offsets, lengths, values, unknown),
-        Reader::Unnamed => unchanged(session, Reply::Bad),
+        Reader::Unnamed => tell(session, Reply::Bad),
     }
 }
 
@@ -132,7 +123,7 @@ fn lent_call(
 ) -> Told {
     let n = room(capacity);
     if unknown.len() < n {
-        return unchanged(session, Reply::Bad);
+        return tell(session, Reply::Bad);
     }
     let start = 0;
     call(
@@ -159,22 +150,22 @@ pub fn raw_call(
     let mut lengths = [0usize; 4096];
     let mut values = [0.0; 4096];
     if k > 2 {
-        return unchanged(session, Reply::Bad);
+        return tell(session, Reply::Bad);
     }
     if word_count(line) != k + 4 {
-        return unchanged(session, Reply::Bad);
+        return tell(session, Reply::Bad);
     }
     let Whole::Is(capacity) = read_whole(word(line, k)) else {
-        return unchanged(session, Reply::Bad);
+        return tell(session, Reply::Bad);
     };
     let Count::Is(used) = script_lists::bytes(word(line, k + 1), &mut bytes) else {
-        return unchanged(session, Reply::Bad);
+        return tell(session, Reply::Bad);
     };
     let Count::Is(pairs) = script_lists::pairs(word(line, k + 2), &mut offsets, &mut lengths) else {
-        return unchanged(session, Reply::Bad);
+        return tell(session, Reply::Bad);
     };
     let Count::Is(count) = script_lists::numbers(word(line, k + 3), &mut values) else {
-        return unchanged(session, Reply::Bad);
+        return tell(session, Reply::Bad);
     };
     lent_call(
         session,
@@ -201,7 +192,7 @@ pub fn plain_call(
     let mut lengths = [0usize; 4096];
     let mut values = [0.0; 4096];
     let Count::Is(count) = key_lists::key_values(line, k, &mut values) else {
-        return unchanged(session, Reply::Bad);
+        return tell(session, Reply::Bad);
     };
     key_lists::key_pairs(line, k, &mut offsets, &mut lengths);
     let used = key_lists::key_bytes(line, k, &mut bytes);

@@ -1,10 +1,14 @@
-// Loads by the words of a line.
+// Loads by the words of a line, and the lookup of a load's cells.
 use crate::replies;
 use crate::replies::Reply;
+use crate::replies::Session;
+use crate::replies::Told;
+use crate::replies::tell;
 use device::Mosfet1;
 use loading::LoadAnswer;
 use loading::LoadKind;
 use prefixes::first_columns;
+use prefixes::first_numbers;
 use prefixes::first_places;
 use script::number::Number;
 use script::number::read_number;
@@ -39,20 +43,17 @@ fn kind_of(w: &[u8]) -> Kind {
     }
 }
 
-// Loads, and writes both slices whole, or the refusal, from the start of out on.
-fn load_into(
-    device: Mosfet1,
-    kind: LoadKind,
-    rhs: &mut [f64],
-    values: &mut [f64],
-    columns: &[u32],
-    offsets: &[usize],
-    lengths: &[usize],
+// The command's name and both slices whole, or the refusal, from the start of out on.
+fn put_loaded(
     out: &mut [u8],
+    name: &[u8],
+    answer: LoadAnswer,
+    rhs: &[f64],
+    values: &[f64],
 ) -> usize {
-    match loading::load(device, kind, rhs, values, columns, offsets, lengths) {
+    match answer {
         LoadAnswer::Done => {
-            let n = hex::put_text(out, 0, b"load");
+            let n = hex::put_text(out, 0, name);
             let m = answers::put_list(out, n, rhs);
             answers::put_list(out, m, values)
         }
@@ -84,7 +85,7 @@ fn load_first(
         return put_bad(out);
     }
     let start = 0;
-    load_into(
+    let answer = loading::load(
         device,
         kind,
         &mut rhs[start..numbers],
@@ -92,7 +93,13 @@ fn load_first(
         columns,
         offsets,
         lengths,
+    );
+    put_loaded(
         out,
+        b"load",
+        answer,
+        first_numbers(rhs, numbers),
+        first_numbers(values, count),
     )
 }
 
@@ -130,4 +137,87 @@ pub fn load(device: Mosfet1, line: &[u8], out: &mut [u8]) -> usize {
         first_places(&lengths, rows),
         out,
     )
+}
+
+// The cells that were looked up are kept. A refusal keeps those from before.
+fn resolve_in(session: Session, columns: &[u32], offsets: &[usize], lengths: &[usize]) -> Told {
+    let device = session.device;
+    let found = resolve::resolve(device, columns, offsets, lengths);
+    if found.row != 0 {
+        return tell(session, Reply::Refused(found.row));
+    }
+    let cells = found.cells;
+    let mut next = session;
+    next.cells = cells;
+    tell(next, Reply::Resolved)
+}
+
+// `resolve COLUMNS ROWS`
+pub fn resolve(session: Session, line: &[u8]) -> Told {
+    let mut columns = [0u32; 4096];
+    let mut offsets = [0usize; 4096];
+    let mut lengths = [0usize; 4096];
+    let Count::Is(cells) = script_lists::columns(word(line, 1), &mut columns) else {
+        return tell(session, Reply::Bad);
+    };
+    let Count::Is(rows) = script_lists::pairs(word(line, 2), &mut offsets, &mut lengths) else {
+        return tell(session, Reply::Bad);
+    };
+    resolve_in(
+        session,
+        first_columns(&columns, cells),
+        first_places(&offsets, rows),
+        first_places(&lengths, rows),
+    )
+}
+
+// Loads by the kept cells into the first places of both slices; a count beyond its slice is bad.
+fn load_kept(
+    session: Session,
+    kind: LoadKind,
+    rhs: &mut [f64],
+    numbers: usize,
+    values: &mut [f64],
+    count: usize,
+    out: &mut [u8],
+) -> usize {
+    if rhs.len() < numbers {
+        return put_bad(out);
+    }
+    if values.len() < count {
+        return put_bad(out);
+    }
+    let start = 0;
+    let device = session.device;
+    let cells = session.cells;
+    let answer = load_resolved::load_resolved(
+        device,
+        kind,
+        &cells,
+        &mut rhs[start..numbers],
+        &mut values[start..count],
+    );
+    put_loaded(
+        out,
+        b"loadresolved",
+        answer,
+        first_numbers(rhs, numbers),
+        first_numbers(values, count),
+    )
+}
+
+// `loadresolved dc|tran:ALPHA RHS VALUES`
+pub fn load_resolved(session: Session, line: &[u8], out: &mut [u8]) -> usize {
+    let mut rhs = [0.0; 4096];
+    let mut values = [0.0; 4096];
+    let Kind::Is(kind) = kind_of(word(line, 1)) else {
+        return put_bad(out);
+    };
+    let Count::Is(numbers) = script_lists::numbers(word(line, 2), &mut rhs) else {
+        return put_bad(out);
+    };
+    let Count::Is(count) = script_lists::numbers(word(line, 3), &mut values) else {
+        return put_bad(out);
+    };
+    load_kept(session, kind, &mut rhs, numbers, &mut values, count, out)
 }

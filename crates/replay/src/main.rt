@@ -138,13 +138,9 @@ fn start(session: Session) {
     );
 }
 
-// The first session is that of a card with no keys, and not present.
 fn main() {
     match card::from_model_params(false, &[], &[], &[], &[], &mut []) {
-        CardAnswer::Done(device, _) => start(Session {
-            device,
-            present: false,
-        }),
+        CardAnswer::Done(device, _) => start(replies::first_session(device)),
         CardAnswer::Refused(_) => {}
     }
 }

@@ -20,6 +20,7 @@ pub enum Reply {
     Scaled,
     Bound(usize, NodeId, NodeId),
     Evaluated(Answer),
+    Resolved,
     Committed,
     Quiet,
     Noise(NodeId, NodeId, f64),
@@ -31,11 +32,32 @@ pub enum Reply {
     Two(f64, f64),
 }
 
-// The device between two lines. Before any card it is that of a card with no keys, and is not present: calls are tested on it and
-// none is accepted.
+// What is kept between two lines: the device, and the cells of the last accepted `resolve`. Before any card the device is that of a
+// card with no keys, and is not present: calls are tested on it and none is accepted.
 pub struct Session {
     pub device: Mosfet1,
     pub present: bool,
+    pub cells: [usize; 37],
+}
+
+// The session before any call, by the device of a card with no keys.
+pub fn first_session(device: Mosfet1) -> Session {
+    let cells = [0usize; 37];
+    Session {
+        device,
+        present: false,
+        cells,
+    }
+}
+
+// The session that a call leaves, and what it answers.
+pub struct Told {
+    pub session: Session,
+    pub reply: Reply,
+}
+
+pub fn tell(session: Session, reply: Reply) -> Told {
+    Told { session, reply }
 }
 
 // The device that a call leaves, and what it answers.
@@ -116,6 +138,7 @@ pub fn put_reply(out: &mut [u8], reply: Reply, places: &[usize]) -> usize {
         Reply::Scaled => hex::put_text(out, 0, b"scale"),
         Reply::Bound(extra, drain, source) => put_bound(out, extra, drain, source),
         Reply::Evaluated(a) => put_evaluated(out, a),
+        Reply::Resolved => hex::put_text(out, 0, b"resolve"),
         Reply::Committed => hex::put_text(out, 0, b"commit"),
         Reply::Quiet => hex::put_text(out, 0, b"noise"),
         Reply::Noise(pos, neg, density) => put_noise(out, pos, neg, density),
