@@ -169,8 +169,8 @@ fn accepted_evaluation(e: Evaluated) -> ChangesOrRefusal
     ChangesOrRefusal::Changes(changes)
 }
 
-// An evaluation without the transient flag, and the charges of one with it. So the charges are worked out where they are wanted, and
-// nothing that they need is held ready where they are not.
+// An evaluation without the transient flag, and the charges of one with it. So the evaluation itself carries no charges along, and
+// they are worked out where they are stored.
 fn accepted_transient(e: Evaluated, d: Mosfet1, x: &[f64]) -> ChangesOrRefusal
     ensures { λ c. ⌜ c ≡ Changes (evaluatedChanges (chargedOf d (now (x .entry)) e)) ⌝ }
 {
