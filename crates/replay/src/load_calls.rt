@@ -148,6 +148,7 @@ fn resolve_in(session: Session, columns: &[u32], offsets: &[usize], lengths: &[u
     }
     let cells = found.cells;
     let mut next = session;
+    next.resolved = true;
     next.cells = cells;
     tell(next, Reply::Resolved)
 }
@@ -206,10 +207,13 @@ fn load_kept(
     )
 }
 
-// `loadresolved dc|tran:ALPHA RHS VALUES`
+// `loadresolved dc|tran:ALPHA RHS VALUES`; bad where no cells are kept
 pub fn load_resolved(session: Session, line: &[u8], out: &mut [u8]) -> usize {
     let mut rhs = [0.0; 4096];
     let mut values = [0.0; 4096];
+    if !session.resolved {
+        return put_bad(out);
+    }
     let Kind::Is(kind) = kind_of(word(line, 1)) else {
         return put_bad(out);
     };

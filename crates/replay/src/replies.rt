@@ -32,11 +32,12 @@ pub enum Reply {
     Two(f64, f64),
 }
 
-// What is kept between two lines: the device, and the cells of the last accepted `resolve`. Before any card the device is that of a
-// card with no keys, and is not present: calls are tested on it and none is accepted.
+// What is kept between two lines: the device, whether a `resolve` was accepted, and the cells of the last that was. Before any card
+// the device is that of a card with no keys, and is not present: calls are tested on it and none is accepted.
 pub struct Session {
     pub device: Mosfet1,
     pub present: bool,
+    pub resolved: bool,
     pub cells: [usize; 37],
 }
 
@@ -46,6 +47,7 @@ pub fn first_session(device: Mosfet1) -> Session {
     Session {
         device,
         present: false,
+        resolved: false,
         cells,
     }
 }
