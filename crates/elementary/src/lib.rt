@@ -1,38 +1,14 @@
-// The elementary functions: one name for each function of the crates below, and its export for C.
+// The elementary functions: one name for each function of the crates below, and its export for C. Those that answer a struct stand
+// here as functions of their own, since a caller must be able to name the type, and a name that is passed on does not do for that.
 ghost use mathlib.Core.Path.{_≡_};
 ghost use Rattle.elementary.specs.Functions.{sqrtOf, expOf, lnOf, ln1pOf, powOf};
 ghost use lib.Ieee.{neg};
 ghost use Rattle.exact.specs.Float64.{_⊖_, +1};
-
-pub fn sqrt(x: f64) -> f64
-    ensures { λ r. ⌜ r ≡ sqrtOf x ⌝ }
-{
-    square_root::sqrt(x)
-}
-
-pub fn exp(x: f64) -> f64
-    ensures { λ r. ⌜ r ≡ expOf x ⌝ }
-{
-    exponential::exp(x)
-}
-
-pub fn ln(x: f64) -> f64
-    ensures { λ r. ⌜ r ≡ lnOf x ⌝ }
-{
-    logarithm::ln(x)
-}
-
-pub fn ln_1p(a: f64) -> f64
-    ensures { λ r. ⌜ r ≡ ln1pOf a ⌝ }
-{
-    logarithm::ln_1p(a)
-}
-
-pub fn pow(b: f64, p: f64) -> f64
-    ensures { λ r. ⌜ r ≡ powOf b p ⌝ }
-{
-    power::pow(b, p)
-}
+pub use exponential::exp;
+pub use logarithm::ln;
+pub use logarithm::ln_1p;
+pub use power::pow;
+pub use square_root::sqrt;
 
 // Powers of one base, by one logarithm.
 pub struct TwoPowers {
