@@ -1,8 +1,8 @@
 // Which command a line is, by its first word and the count of its words.
-use script::word::same;
-use script::word::skip_spaces;
-use script::word::word;
-use script::word::word_count;
+use crate::script::word::same;
+use crate::script::word::skip_spaces;
+use crate::script::word::word;
+use crate::script::word::word_count;
 
 // Calls that change the device.
 pub enum Change {

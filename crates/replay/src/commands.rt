@@ -14,9 +14,9 @@ use crate::replies::Outcome;
 use crate::replies::Reply;
 use crate::replies::Session;
 use crate::replies::Told;
+use crate::script::word::word;
 use card::CardAnswer;
 use device::Mosfet1;
-use script::word::word;
 
 // The session that a line leaves, and the end of its answer.
 pub struct Answered {

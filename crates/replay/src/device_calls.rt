@@ -1,6 +1,18 @@
 // Scaling, binding, evaluation, commit, noise and reactances by the words of a line.
+use crate::prefixes::first_numbers;
 use crate::replies::Outcome;
 use crate::replies::Reply;
+use crate::script::number::Method;
+use crate::script::number::Node;
+use crate::script::number::Number;
+use crate::script::number::Whole;
+use crate::script::number::read_method;
+use crate::script::number::read_node;
+use crate::script::number::read_number;
+use crate::script::number::read_whole;
+use crate::script::word::same;
+use crate::script::word::word;
+use crate::script_lists::Count;
 use device::Discretisation;
 use device::Mosfet1;
 use device::NodeId;
@@ -9,18 +21,6 @@ use model::calls::Evaluation;
 use model::small_signal::Noise;
 use model::small_signal::Reactances;
 use mosfet1::steps::Conditions;
-use prefixes::first_numbers;
-use script::number::Method;
-use script::number::Node;
-use script::number::Number;
-use script::number::Whole;
-use script::number::read_method;
-use script::number::read_node;
-use script::number::read_number;
-use script::number::read_whole;
-use script::word::same;
-use script::word::word;
-use script_lists::Count;
 use setup::SetupAnswer;
 use temperature::Kelvin;
 
@@ -173,7 +173,7 @@ pub fn eval(device: Mosfet1, line: &[u8]) -> Outcome {
         return kept(device, Reply::Bad);
     };
     let mut x = [0.0; 4096];
-    let Count::Is(n) = script_lists::numbers(word(line, 6), &mut x) else {
+    let Count::Is(n) = crate::script_lists::numbers(word(line, 6), &mut x) else {
         return kept(device, Reply::Bad);
     };
     eval_at(device, first_numbers(&x, n), transient, k)
@@ -189,7 +189,7 @@ fn commit_at(device: Mosfet1, x: &[f64]) -> Outcome {
 // `commit X`
 pub fn commit(device: Mosfet1, line: &[u8]) -> Outcome {
     let mut x = [0.0; 4096];
-    let Count::Is(n) = script_lists::numbers(word(line, 1), &mut x) else {
+    let Count::Is(n) = crate::script_lists::numbers(word(line, 1), &mut x) else {
         return kept(device, Reply::Bad);
     };
     commit_at(device, first_numbers(&x, n))

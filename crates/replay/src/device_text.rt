@@ -1,8 +1,9 @@
 // A device's state as text: every field of the Rust's `Mosfet1` but `jac_cells`, in the order of its declaration.
-use answers::put_given;
-use answers::put_history;
-use answers::put_method;
-use answers::put_node;
+use crate::answers::put_given;
+use crate::answers::put_history;
+use crate::answers::put_method;
+use crate::answers::put_node;
+use crate::script::word::word;
 use device::Card;
 use device::ChargeHistory;
 use device::Charges;
@@ -14,7 +15,6 @@ use device::NodeId;
 use device::OperatingPoint;
 use device::Scaled;
 use device::Terminals;
-use script::word::word;
 
 // A name after a space, and `=`.
 fn put_name(out: &mut [u8], at: usize, name: &[u8]) -> usize {

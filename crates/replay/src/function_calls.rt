@@ -1,15 +1,15 @@
 // `call FUNCTION ARGS`: one function alone.
 use crate::replies::Reply;
+use crate::script::number::Method;
+use crate::script::number::Number;
+use crate::script::number::read_method;
+use crate::script::number::read_number;
+use crate::script::word::same;
+use crate::script::word::word;
+use crate::script::word::word_count;
 use device::ChargeHistory;
 use device::Discretisation;
 use device::Given;
-use script::number::Method;
-use script::number::Number;
-use script::number::read_method;
-use script::number::read_number;
-use script::word::same;
-use script::word::word;
-use script::word::word_count;
 use temperature::Kelvin;
 
 fn one_argument(name: &[u8], x: f64) -> Reply {

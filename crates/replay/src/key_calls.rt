@@ -1,21 +1,21 @@
 // Card and geometry by the words of a line.
 use crate::key_lists;
+use crate::prefixes::first_bytes;
+use crate::prefixes::first_numbers;
+use crate::prefixes::first_places;
 use crate::replies::Reply;
 use crate::replies::Session;
 use crate::replies::Told;
 use crate::replies::tell;
+use crate::script::number::Whole;
+use crate::script::number::read_whole;
+use crate::script::word::same;
+use crate::script::word::word;
+use crate::script::word::word_count;
+use crate::script_lists::Count;
 use card::CardAnswer;
 use device::Mosfet1;
 use geometry::GeometryAnswer;
-use prefixes::first_bytes;
-use prefixes::first_numbers;
-use prefixes::first_places;
-use script::number::Whole;
-use script::number::read_whole;
-use script::word::same;
-use script::word::word;
-use script::word::word_count;
-use script_lists::Count;
 ghost use Prim.Native.Nat.{_≤_};
 
 // What the keys are handed to.
@@ -158,13 +158,14 @@ pub fn raw_call(
     let Whole::Is(capacity) = read_whole(word(line, k)) else {
         return tell(session, Reply::Bad);
     };
-    let Count::Is(used) = script_lists::bytes(word(line, k + 1), &mut bytes) else {
+    let Count::Is(used) = crate::script_lists::bytes(word(line, k + 1), &mut bytes) else {
         return tell(session, Reply::Bad);
     };
-    let Count::Is(pairs) = script_lists::pairs(word(line, k + 2), &mut offsets, &mut lengths) else {
+    let Count::Is(pairs) = crate::script_lists::pairs(word(line, k + 2), &mut offsets, &mut lengths)
+    else {
         return tell(session, Reply::Bad);
     };
-    let Count::Is(count) = script_lists::numbers(word(line, k + 3), &mut values) else {
+    let Count::Is(count) = crate::script_lists::numbers(word(line, k + 3), &mut values) else {
         return tell(session, Reply::Bad);
     };
     lent_call(

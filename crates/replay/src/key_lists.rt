@@ -1,11 +1,11 @@
 // The keys of a line's words, each `KEY=HEX`, in lent lists.
-use prefixes::first_bytes;
-use script::number::Number;
-use script::number::read_number;
-use script::word::skip_spaces;
-use script::word::until;
-use script::word::word_start;
-use script_lists::Count;
+use crate::prefixes::first_bytes;
+use crate::script::number::Number;
+use crate::script::number::read_number;
+use crate::script::word::skip_spaces;
+use crate::script::word::until;
+use crate::script::word::word_start;
+use crate::script_lists::Count;
 ghost use Prim.Native.Nat.{_≤_};
 ghost use lib.ListN.{length};
 

@@ -1,21 +1,21 @@
 // Loads by the words of a line, and the lookup of a load's cells.
+use crate::prefixes::first_columns;
+use crate::prefixes::first_numbers;
+use crate::prefixes::first_places;
 use crate::replies;
 use crate::replies::Reply;
 use crate::replies::Session;
 use crate::replies::Told;
 use crate::replies::tell;
+use crate::script::number::Number;
+use crate::script::number::read_number;
+use crate::script::word::same;
+use crate::script::word::until;
+use crate::script::word::word;
+use crate::script_lists::Count;
 use device::Mosfet1;
 use loading::LoadAnswer;
 use loading::LoadKind;
-use prefixes::first_columns;
-use prefixes::first_numbers;
-use prefixes::first_places;
-use script::number::Number;
-use script::number::read_number;
-use script::word::same;
-use script::word::until;
-use script::word::word;
-use script_lists::Count;
 
 // Direct current, transient with its alpha, or a word that is neither.
 enum Kind {
@@ -54,8 +54,8 @@ fn put_loaded(
     match answer {
         LoadAnswer::Done => {
             let n = hex::put_text(out, 0, name);
-            let m = answers::put_list(out, n, rhs);
-            answers::put_list(out, m, values)
+            let m = crate::answers::put_list(out, n, rhs);
+            crate::answers::put_list(out, m, values)
         }
         LoadAnswer::Refused(row) => replies::put_reply(out, Reply::Refused(row), &[]),
     }
@@ -113,16 +113,17 @@ pub fn load(device: Mosfet1, line: &[u8], out: &mut [u8]) -> usize {
     let Kind::Is(kind) = kind_of(word(line, 1)) else {
         return put_bad(out);
     };
-    let Count::Is(numbers) = script_lists::numbers(word(line, 2), &mut rhs) else {
+    let Count::Is(numbers) = crate::script_lists::numbers(word(line, 2), &mut rhs) else {
         return put_bad(out);
     };
-    let Count::Is(cells) = script_lists::columns(word(line, 3), &mut columns) else {
+    let Count::Is(cells) = crate::script_lists::columns(word(line, 3), &mut columns) else {
         return put_bad(out);
     };
-    let Count::Is(rows) = script_lists::pairs(word(line, 4), &mut offsets, &mut lengths) else {
+    let Count::Is(rows) = crate::script_lists::pairs(word(line, 4), &mut offsets, &mut lengths)
+    else {
         return put_bad(out);
     };
-    let Count::Is(count) = script_lists::numbers(word(line, 5), &mut values) else {
+    let Count::Is(count) = crate::script_lists::numbers(word(line, 5), &mut values) else {
         return put_bad(out);
     };
     load_first(
@@ -158,10 +159,11 @@ pub fn resolve(session: Session, line: &[u8]) -> Told {
     let mut columns = [0u32; 4096];
     let mut offsets = [0usize; 4096];
     let mut lengths = [0usize; 4096];
-    let Count::Is(cells) = script_lists::columns(word(line, 1), &mut columns) else {
+    let Count::Is(cells) = crate::script_lists::columns(word(line, 1), &mut columns) else {
         return tell(session, Reply::Bad);
     };
-    let Count::Is(rows) = script_lists::pairs(word(line, 2), &mut offsets, &mut lengths) else {
+    let Count::Is(rows) = crate::script_lists::pairs(word(line, 2), &mut offsets, &mut lengths)
+    else {
         return tell(session, Reply::Bad);
     };
     resolve_in(
@@ -217,10 +219,10 @@ pub fn load_resolved(session: Session, line: &[u8], out: &mut [u8]) -> usize {
     let Kind::Is(kind) = kind_of(word(line, 1)) else {
         return put_bad(out);
     };
-    let Count::Is(numbers) = script_lists::numbers(word(line, 2), &mut rhs) else {
+    let Count::Is(numbers) = crate::script_lists::numbers(word(line, 2), &mut rhs) else {
         return put_bad(out);
     };
-    let Count::Is(count) = script_lists::numbers(word(line, 3), &mut values) else {
+    let Count::Is(count) = crate::script_lists::numbers(word(line, 3), &mut values) else {
         return put_bad(out);
     };
     load_kept(session, kind, &mut rhs, numbers, &mut values, count, out)

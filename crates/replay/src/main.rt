@@ -1,4 +1,5 @@
 // Runs a script of calls: reads a command a line and writes an answer line for each, beside which the Rust's answers can be held.
+mod answers;
 mod command;
 mod commands;
 mod device_calls;
@@ -7,7 +8,10 @@ mod function_calls;
 mod key_calls;
 mod key_lists;
 mod load_calls;
+mod prefixes;
 mod replies;
+mod script;
+mod script_lists;
 
 use crate::replies::Session;
 use card::CardAnswer;
@@ -79,7 +83,7 @@ fn feed(state: State, line: &mut [u8], s: &[u8]) -> State {
     let mut next = state;
     let mut at = 0;
     while at < s.len() {
-        let end = script::word::until(s, at, 10);
+        let end = crate::script::word::until(s, at, 10);
         if end == s.len() {
             return add(next, line, &s[at..end]);
         }

@@ -1,11 +1,11 @@
 // What a command answers, and its text.
+use crate::answers::put_between;
+use crate::answers::put_each;
+use crate::answers::put_next;
+use crate::answers::put_next_whole;
+use crate::answers::put_node;
+use crate::answers::put_places;
 use crate::device_text;
-use answers::put_between;
-use answers::put_each;
-use answers::put_next;
-use answers::put_next_whole;
-use answers::put_node;
-use answers::put_places;
 use bias::Answer;
 use device::Mosfet1;
 use device::NodeId;

@@ -10,7 +10,7 @@ use Rattle.replay.proofs.feed.Reads as reads
 use Rattle.replay.proofs.feed.Lts as lts
 use Rattle.replay.proofs.add.Reads as add-reads
 use Rattle.replay.proofs.end_line.Reads as end-line-reads
-use Rattle.script.proofs.word.until.Reads as until-reads
+use Rattle.replay.proofs.script.word.until.Reads as until-reads
 
 abbrev Inv-loop : tie.InvT-loop
 Inv-loop line₀ s next₀ at₀ line next at = (at ≤ length s) × (length line ≡ length line₀)

@@ -8,7 +8,7 @@ use Rattle.replay.proofs.device_text.put_floats.Tie as tie
 use Rattle.replay.proofs.device_text.put_floats.Reads as reads
 use Rattle.replay.proofs.device_text.put_floats.Lts as lts
 use Rattle.replay.proofs.device_text.put_float.Reads as put-float-reads
-use Rattle.script.proofs.word.word.Reads as word-reads
+use Rattle.replay.proofs.script.word.word.Reads as word-reads
 
 abbrev Inv-loop : tie.InvT-loop
 Inv-loop out₀ at names xs n₀ i₀ out n i = (i ≤ length xs) × (length out ≡ length out₀)

@@ -8,8 +8,8 @@ use Rattle.replay.proofs.function_calls.of_floats.Tie as tie
 use Rattle.replay.proofs.function_calls.of_floats.Reads as reads
 use Rattle.replay.proofs.function_calls.of_floats.Lts as lts
 use Rattle.replay.proofs.function_calls.of_arguments.Reads as of-arguments-reads
-use Rattle.script.proofs.number.read_number.Reads as read-number-reads
-use Rattle.script.proofs.word.word.Reads as word-reads
+use Rattle.replay.proofs.script.number.read_number.Reads as read-number-reads
+use Rattle.replay.proofs.script.word.word.Reads as word-reads
 
 abbrev Inv-loop : tie.InvT-loop
 Inv-loop line count x₀ i₀ x i = (i ≤ count) × (length x ≡ 8)

@@ -9,10 +9,10 @@ use Rattle.replay.proofs.key_lists.key_bytes.Reads as reads
 use Rattle.replay.proofs.key_lists.key_bytes.Lts as lts
 use Rattle.hex.proofs.put_text.Reads as put-text-reads
 use Rattle.replay.proofs.key_lists.key_length.Reads as key-length-reads
-use Rattle.script.proofs.word.skip_spaces.Reads as skip-spaces-reads
-use Rattle.script.proofs.word.until.Reads as until-reads
-use Rattle.script.proofs.word.word_start.Reads as word-start-reads
-use Rattle.prefixes.proofs.first_bytes.Reads as first-bytes-reads
+use Rattle.replay.proofs.script.word.skip_spaces.Reads as skip-spaces-reads
+use Rattle.replay.proofs.script.word.until.Reads as until-reads
+use Rattle.replay.proofs.script.word.word_start.Reads as word-start-reads
+use Rattle.replay.proofs.prefixes.first_bytes.Reads as first-bytes-reads
 
 abbrev Inv-loop : tie.InvT-loop
 Inv-loop line k bytes₀ at₀ used₀ bytes at used = (at ≤ length line) × (length bytes ≡ length bytes₀)

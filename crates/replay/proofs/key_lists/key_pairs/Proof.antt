@@ -9,9 +9,9 @@ use Rattle.replay.proofs.key_lists.key_pairs.Reads as reads
 use Rattle.replay.proofs.key_lists.key_pairs.Lts as lts
 use Rattle.replay.proofs.key_lists.key_length.Reads as key-length-reads
 use Rattle.replay.proofs.key_lists.put_place.Reads as put-place-reads
-use Rattle.script.proofs.word.skip_spaces.Reads as skip-spaces-reads
-use Rattle.script.proofs.word.until.Reads as until-reads
-use Rattle.script.proofs.word.word_start.Reads as word-start-reads
+use Rattle.replay.proofs.script.word.skip_spaces.Reads as skip-spaces-reads
+use Rattle.replay.proofs.script.word.until.Reads as until-reads
+use Rattle.replay.proofs.script.word.word_start.Reads as word-start-reads
 
 abbrev Inv-loop : tie.InvT-loop
 Inv-loop line k offsets₀ lengths₀ at₀ n₀ used₀ offsets lengths at n used = (at ≤ length line) × (n ≤ at) × (used ≤ at) × (length offsets ≡ length offsets₀) × (length lengths ≡ length lengths₀)

@@ -9,9 +9,9 @@ use Rattle.replay.proofs.key_lists.key_values.Tie as tie
 use Rattle.replay.proofs.key_lists.key_values.Reads as reads
 use Rattle.replay.proofs.key_lists.key_values.Lts as lts
 use Rattle.replay.proofs.key_lists.read_key.Reads as read-key-reads
-use Rattle.script.proofs.word.skip_spaces.Reads as skip-spaces-reads
-use Rattle.script.proofs.word.until.Reads as until-reads
-use Rattle.script.proofs.word.word_start.Reads as word-start-reads
+use Rattle.replay.proofs.script.word.skip_spaces.Reads as skip-spaces-reads
+use Rattle.replay.proofs.script.word.until.Reads as until-reads
+use Rattle.replay.proofs.script.word.word_start.Reads as word-start-reads
 
 abbrev Inv-loop : tie.InvT-loop
 Inv-loop line k values₀ at₀ n₀ values at n = (at ≤ length line) × (n ≤ at) × (length values ≡ length values₀)

@@ -1,0 +1,43 @@
+use Prim.Native.Nat.{ℕ, _+_, _-_, _≤_, _<_}
+use mathlib.Core.Path.{_≡_, refl, sym, _∙_, ap}
+use mathlib.Core.List.{List, [], _∷_, _++_}
+use native.Mathlib.Omega.{arith}
+use lib.ListN.{length, take, drop, getD}
+use Rattle.hex.specs.Text.{endOf, textAt, numberText}
+use Rattle.replay.specs.Text.{itemText}
+use Rattle.hex.proofs.Joining.{Written, joined}
+use borrow.Author.Needs.{needs}
+use Rattle.replay.proofs.answers.put_item.Statement.{statement}
+use Rattle.replay.proofs.answers.put_item.Tie as tie
+use Rattle.replay.proofs.answers.put_item.Reads as reads
+use Rattle.replay.proofs.answers.put_item.Lts as lts
+use Rattle.hex.proofs.put_number.Reads as put-number-reads
+use Rattle.hex.proofs.put_text.Reads as put-text-reads
+
+slice-aggregate-put-text : tie.Need-slice-aggregate-put-text
+slice-aggregate-put-text c = search needs
+
+put-text-requires : tie.Need-put-text-requires
+put-text-requires c κs = search needs
+
+put-number-requires : tie.Need-put-number-requires
+put-number-requires c κs = search needs
+
+same-length : tie.Need-same-length
+same-length c = search needs
+
+returns : tie.Need-returns
+unfolding itemText
+returns c =
+    let A = c .before .before .before .before .before .before .before .before .before .before .args in
+    let P1 = c .before .before .before .before .before .before .put-text in
+    let P2 = c .before .before .put-number in
+    let v1 : Written (A .out .now) (A .at) (44 ∷ []) (P1 .result) (P1 .last .0) = record { ends = P1 .ensures .0; holds = P1 .ensures .1 } in
+    let v2 : Written (P1 .last .0) (P1 .result) (numberText (A .x)) (P2 .result) (P2 .last .0) = record { ends = P2 .ensures .0; holds = P2 .ensures .1 } in
+    let all = joined v1 v2 in
+    (all .ends, all .holds)
+
+pub put-item-spec : {M : Type 1} → statement M
+put-item-spec =
+    tie.close
+    (tie.spec slice-aggregate-put-text put-text-requires put-number-requires same-length returns)

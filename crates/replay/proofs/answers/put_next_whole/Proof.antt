@@ -1,0 +1,43 @@
+use Prim.Native.Nat.{ℕ, _+_, _-_, _≤_, _<_}
+use mathlib.Core.Path.{_≡_, refl, sym, _∙_, ap}
+use mathlib.Core.List.{List, [], _∷_, _++_}
+use native.Mathlib.Omega.{arith}
+use lib.ListN.{length, take, drop, getD}
+use Rattle.hex.specs.Text.{endOf, textAt, numberText}
+use Rattle.replay.specs.Text.{nextWholeText, wholeText}
+use Rattle.hex.proofs.Joining.{Written, joined}
+use borrow.Author.Needs.{needs}
+use Rattle.replay.proofs.answers.put_next_whole.Statement.{statement}
+use Rattle.replay.proofs.answers.put_next_whole.Tie as tie
+use Rattle.replay.proofs.answers.put_next_whole.Reads as reads
+use Rattle.replay.proofs.answers.put_next_whole.Lts as lts
+use Rattle.replay.proofs.answers.put_whole.Reads as put-whole-reads
+use Rattle.hex.proofs.put_text.Reads as put-text-reads
+
+slice-aggregate-put-text : tie.Need-slice-aggregate-put-text
+slice-aggregate-put-text c = search needs
+
+put-text-requires : tie.Need-put-text-requires
+put-text-requires c κs = search needs
+
+put-whole-requires : tie.Need-put-whole-requires
+put-whole-requires c κs = search needs
+
+same-length : tie.Need-same-length
+same-length c = search needs
+
+returns : tie.Need-returns
+unfolding nextWholeText
+returns c =
+    let A = c .before .before .before .before .before .before .before .before .before .before .args in
+    let P1 = c .before .before .before .before .before .before .put-text in
+    let P2 = c .before .before .put-whole in
+    let v1 : Written (A .out .now) (A .at) (32 ∷ []) (P1 .result) (P1 .last .0) = record { ends = P1 .ensures .0; holds = P1 .ensures .1 } in
+    let v2 : Written (P1 .last .0) (P1 .result) (wholeText (A .x)) (P2 .result) (P2 .last .0) = record { ends = P2 .ensures .0; holds = P2 .ensures .1 } in
+    let all = joined v1 v2 in
+    (all .ends, all .holds)
+
+pub put-next-whole-spec : {M : Type 1} → statement M
+put-next-whole-spec =
+    tie.close
+    (tie.spec slice-aggregate-put-text put-text-requires put-whole-requires same-length returns)

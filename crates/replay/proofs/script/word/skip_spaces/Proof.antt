@@ -1,0 +1,73 @@
+use Prim.Native.Nat.{ℕ, suc, _+_, _-_, _*_, _≤_, _<_, min}
+use mathlib.Core.Path.{_≡_, refl, sym, _∙_, ap}
+use mathlib.Core.Bool.{Bool}
+use native.Mathlib.Omega.{arith}
+use lib.ListN.{length, drop, getD}
+use borrow.Author.Tests.{eq-eqb, ne-eqb}
+use Rattle.replay.specs.Word.{leading, isSpace, skipSpacesOf}
+use Rattle.replay.proofs.script.Leading.{leading-end, leading-stops, leading-goes-on}
+use borrow.Author.Needs.{needs}
+use Rattle.replay.proofs.script.word.skip_spaces.Statement.{statement}
+use Rattle.replay.proofs.script.word.skip_spaces.Tie as tie
+use Rattle.replay.proofs.script.word.skip_spaces.Reads as reads
+use Rattle.replay.proofs.script.word.skip_spaces.Lts as lts
+
+abbrev Inv-loop : tie.InvT-loop
+Inv-loop s at i₀ i = (at ≤ i) × (i ≤ length s) × (at + leading isSpace (drop at s) ≡ i + leading isSpace (drop i s))
+
+abbrev μ-loop : tie.MeasureT-loop
+μ-loop s at i₀ i = length s - i
+
+returns : tie.Need-returns Inv-loop μ-loop
+unfolding skipSpacesOf
+returns c =
+    let A = c .before .args in
+    let none : leading isSpace (drop (A .at) (A .s .now)) ≡ 0 = leading-end isSpace (A .s .now) (A .at) (c .if1 .taken) in
+    (omega arith, (omega arith, omega arith))
+
+loop-holds : tie.Need-loop-holds Inv-loop μ-loop
+loop-holds c = search needs
+
+shared-slice-read-if2 : tie.Need-shared-slice-read-if2 Inv-loop μ-loop
+shared-slice-read-if2 c = search needs
+
+returns-2 : tie.Need-returns-2 Inv-loop μ-loop
+unfolding skipSpacesOf
+returns-2 c =
+    let A = c .before .before .before .before .before .args in let L = c .before .before .before .loop in
+    let none : leading isSpace (drop (L .i) (A .s .now)) ≡ 0 = leading-stops isSpace (A .s .now) (L .i) (omega arith) (ne-eqb _ _ (c .if2 .taken)) in
+    (omega arith, (omega arith, omega arith))
+
+add-i : tie.Need-add-i Inv-loop μ-loop
+add-i c = search needs
+
+loop-less : tie.Need-loop-less Inv-loop μ-loop
+loop-less c = search needs
+
+loop-again : tie.Need-loop-again Inv-loop μ-loop
+loop-again c =
+    let A = c .before .before .before .before .before .args in let L = c .before .before .before .loop in
+    let next : leading isSpace (drop (L .i) (A .s .now)) ≡ suc (leading isSpace (drop (L .i + 1) (A .s .now))) = leading-goes-on isSpace (A .s .now) (L .i) (omega arith) (eq-eqb _ _ (c .if2 .left)) in
+    (omega arith, omega arith, omega arith)
+
+returns-3 : tie.Need-returns-3 Inv-loop μ-loop
+unfolding skipSpacesOf
+returns-3 c =
+    let A = c .before .before .before .args in let L = c .before .loop in
+    let none : leading isSpace (drop (L .i) (A .s .now)) ≡ 0 = leading-end isSpace (A .s .now) (L .i) (omega arith) in
+    (omega arith, (omega arith, omega arith))
+
+pub skip-spaces-spec : {M : Type 1} → statement M
+skip-spaces-spec =
+    tie.close
+    (tie.spec
+    Inv-loop
+    μ-loop
+    returns
+    loop-holds
+    shared-slice-read-if2
+    returns-2
+    add-i
+    loop-less
+    loop-again
+    returns-3)

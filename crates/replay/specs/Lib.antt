@@ -1,0 +1,5 @@
+pub mod Word
+pub mod Number
+pub mod Lists
+pub mod Items
+pub mod Text

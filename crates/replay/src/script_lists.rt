@@ -1,0 +1,16 @@
+// A script's lists, comma separated, `-` the empty one, into lent slices.
+mod byte_list;
+mod column_list;
+mod number_list;
+mod pair_list;
+
+pub use crate::script_lists::byte_list::bytes;
+pub use crate::script_lists::column_list::columns;
+pub use crate::script_lists::number_list::numbers;
+pub use crate::script_lists::pair_list::pairs;
+
+// How many places were filled, or a word that is no such list or has no room.
+pub enum Count {
+    Is(usize),
+    Not,
+}
