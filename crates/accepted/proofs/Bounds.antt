@@ -1,14 +1,14 @@
 -- An accepted card leaves every parameter in its range, and an accepted geometry every size.
-use mathlib.Core.Path.{_≡_, refl, sym, ap, _∙_, subst}
-use mathlib.Core.Bool.{Bool, true, false, cond, not, _||_}
+use mathlib.Core.Path.{_≡_, refl, sym, ap, _∙_}
+use mathlib.Core.Bool.{Bool, true, false, cond, _||_}
 use mathlib.Core.List.{List, [], _∷_}
 use Prim.Native.Nat.{ℕ}
 use native.Mathlib.Omega.{arith}
 use borrow.Author.Tests.{eqb-true}
 use lib.Dec.{eqb}
-use lib.Ieee.{Float, lt, eq, le, add, sub, sum, round, units, odd, size, span, climb, neg, ofBits, ofFields}
+use lib.Ieee.{Float, lt, eq, le, add, sub, sum, round, units, neg, ofBits}
 use lib.ListN.{getD}
-use Rattle.exact.specs.Float64.{_⊕_, _⊘_, +1}
+use Rattle.exact.specs.Float64.{+1}
 use Rattle.temperature.specs.Temperature.{kelvinOf}
 use Rattle.temperature.specs.declared.Celsius.{Celsius}
 use Rattle.device.specs.Limits.{outsideTemperatures}
@@ -21,7 +21,7 @@ use Rattle.keys.specs.declared.Meaning.{Meaning}
 use Rattle.keys.specs.declared.Meaning.the-variants.{Sets, Tnom, Unread, Unknown}
 use Rattle.keys.specs.declared.Table.the-variants as Table
 use Rattle.entries.specs.Entries.{Entry, anyOutside, anyTnomOutside}
-use Rattle.card.specs.Card.{epsOx, pickCox, pickTnom, assigned, parametersOf, defaultVto, defaultsOf}
+use Rattle.card.specs.Card.{pickCox, pickTnom, assigned, parametersOf, defaultVto, defaultsOf}
 use Rattle.card.specs.declared.Parameters.{Parameters}
 use Rattle.geometry.specs.Geometry.{sizesOf, freshSizes}
 use Rattle.geometry.specs.Geometry as Geometry

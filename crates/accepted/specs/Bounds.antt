@@ -2,7 +2,7 @@
 use mathlib.Core.Path.{_≡_}
 use mathlib.Core.Bool.{false}
 use lib.Ieee.{Float}
-use Rattle.exact.specs.Float64.{_⊕_, _⊘_}
+use Rattle.exact.specs.Float64.{_⊘_}
 use Rattle.temperature.specs.Temperature.{kelvinOf}
 use Rattle.device.specs.Limits.{outsideTemperatures}
 use Rattle.keys.specs.Ranges.{rangeOf, outsideRange}

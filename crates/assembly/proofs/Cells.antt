@@ -3,7 +3,7 @@
 use mathlib.Core.Path.{_≡_, refl, sym, ap, _∙_, subst}
 use mathlib.Core.Bool.{Bool, true, false, cond, not, _&&_, _||_}
 use mathlib.Core.List.{List, [], _∷_, _++_}
-use Prim.Native.Nat.{ℕ, zero, suc, _+_, _≤_, _<_}
+use Prim.Native.Nat.{ℕ, _+_, _≤_, _<_}
 use native.Mathlib.Nat.{suc-inj, suc-ne-zero}
 use native.Mathlib.Omega.{arith}
 use lib.ListN.{length, getD}
@@ -19,7 +19,6 @@ use Rattle.device.specs.declared.NodeId.the-variants.{Ground, At}
 use Rattle.device.specs.declared.Terminals.{Terminals}
 use Rattle.stamps.specs.Stamps.{position, jacPairsOf}
 use Rattle.stamps.specs.declared.Position.{Position}
-use Rattle.stamps.specs.declared.ChargeBranch.{ChargeBranch}
 use Rattle.stamps.specs.declared.ChargeBranches.{ChargeBranches}
 use Rattle.assembly.specs.Assembly.{Pattern, Contribution, Place, ground, missing, at, foundPlace, placeOf, addAt, addPlace, addCells, there, allThere, paired, conductancePair, branchCells, matrixContributions}
 use Rattle.places.specs.Places.{missingNumber, skippedNumber, placeNumber, numberOf, numbersOf, noneMissing, fourThere, gatePlacesOf, branchesThere, anyGate}

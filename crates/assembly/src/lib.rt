@@ -8,7 +8,7 @@ ghost use mathlib.Core.Bool.{true};
 ghost use lib.ListN.{length};
 ghost use Rattle.pattern.specs.Pattern.{wellFormed};
 ghost use Rattle.places.specs.Places.{nodesOf, terminalsAt};
-ghost use Rattle.assembly.specs.Assembly.{Pattern, sourceContributions, matrixContributions, Assembled};
+ghost use Rattle.assembly.specs.Assembly.{sourceContributions, matrixContributions, Assembled};
 
 // Adds a device's contributions to the matrix values and the right-hand side, or answers false where a needed cell is not in
 // the pattern. Every needed cell is looked up before the first is written. It serves the next layer: the pattern has passed row

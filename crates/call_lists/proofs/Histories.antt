@@ -1,11 +1,10 @@
 -- The device's histories are the recount.
-use Prim.Native.Nat.{ℕ}
 use mathlib.Core.Path.{_≡_, refl, sym, ap, _∙_}
-use mathlib.Core.Bool.{Bool, true, false, cond}
+use mathlib.Core.Bool.{cond}
 use mathlib.Core.List.{List, [], _∷_}
 use lib.Ieee.{Float}
 use lib.ListN.{length}
-use Rattle.device.specs.Refusals.{Outcome, done, refused}
+use Rattle.device.specs.Refusals.{Outcome, refused}
 use Rattle.device.specs.declared.ChargeHistory.{ChargeHistory}
 use Rattle.device.specs.declared.Discretisation.{Discretisation}
 use Rattle.device.specs.declared.Discretisation.the-variants.{None, Euler, Trapezoid, Gear}

@@ -6,7 +6,7 @@ use mathlib.Core.List.{List, [], _∷_}
 use borrow.Author.Tests.{eqb-true}
 use lib.Dec.{eqb}
 use lib.Ieee.{Float}
-use Rattle.device.specs.Refusals.{Outcome, done, refused}
+use Rattle.device.specs.Refusals.{done, refused}
 use Rattle.device.specs.declared.Mosfet1.{Mosfet1}
 use Rattle.mosfet1.specs.Steps.{evaluatedOf}
 use Rattle.bias.specs.declared.Kept.{Kept}

@@ -1,10 +1,9 @@
 -- The recount reads no history of the device: on devices that differ in their histories alone it is the same.
-use Prim.Native.Nat.{ℕ}
 use mathlib.Core.Path.{_≡_, refl, sym, ap, _∙_}
-use mathlib.Core.Bool.{Bool, true, false, cond}
+use mathlib.Core.Bool.{cond}
 use mathlib.Core.List.{List, [], _∷_}
 use lib.ListN.{length}
-use Rattle.device.specs.Refusals.{Outcome, done, refused}
+use Rattle.device.specs.Refusals.{Outcome, refused}
 use Rattle.device.specs.declared.Histories.{Histories}
 use Rattle.device.specs.declared.Mosfet1.{Mosfet1}
 use Rattle.entries.specs.Entries.{Keyed}

@@ -2,9 +2,8 @@
 use Prim.Native.Nat.{ℕ}
 use mathlib.Core.Path.{_≡_}
 use mathlib.Core.Bool.{Bool}
-use mathlib.Core.List.{List, [], _∷_}
-use lib.Dec.{T}
-use lib.Ieee.{Float, binary64, fits}
+use mathlib.Core.List.{List}
+use lib.Ieee.{Float}
 use Rattle.device.specs.declared.Discretisation.{Discretisation}
 use Rattle.device.specs.declared.Discretisation.the-variants.{None, Euler, Trapezoid, Gear}
 use Rattle.device.specs.declared.Mosfet1.{Mosfet1}

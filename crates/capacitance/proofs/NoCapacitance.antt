@@ -1,5 +1,5 @@
 -- A junction without capacitance: two parts of which each is zero.
-use mathlib.Core.Path.{_≡_, refl, sym, ap, _∙_}
+use mathlib.Core.Path.{_≡_, refl, sym, _∙_}
 use mathlib.Core.Bool.{Bool, true, cond}
 use lib.Ieee.{Float, add, ofBits}
 use Rattle.exact.specs.Float64.{_⊕_, +0}

@@ -5,7 +5,6 @@ use elementary::fractional_powers;
 use elementary::pow;
 use elementary::two_powers;
 ghost use mathlib.Core.Path.{_≡_};
-ghost use Rattle.exact.specs.Float64.{_⊕_};
 ghost use Rattle.capacitance.specs.Meyer.{meyerOf};
 ghost use Rattle.capacitance.specs.Depletion.{qBelowFrom, cjAboveFrom, qAboveFrom, cjDeplMOf, qDeplMOf, cjGradedOf, qGradedOf, qDeplOf};
 

@@ -1,10 +1,10 @@
 -- A model card: its parameters after all keys, and the device that they make.
 use Prim.Native.Nat.{ℕ}
-use mathlib.Core.Bool.{Bool, true, false, cond}
+use mathlib.Core.Bool.{Bool, false, cond}
 use mathlib.Core.List.{List, [], _∷_, _++_}
 use lib.Ieee.{Float, binary64, ofBits, neg}
 use lib.ListN.{length}
-use Rattle.exact.specs.Float64.{_⊕_, _⊖_, _⊗_, _⊘_, _>f_, +0, +1}
+use Rattle.exact.specs.Float64.{_⊗_, _⊘_, _>f_, +0, +1}
 use Rattle.temperature.specs.Temperature.{kelvinOf, tnomDefault}
 use Rattle.temperature.specs.declared.Celsius.{Celsius}
 use Rattle.device.specs.Refusals.{Row, unless, Outcome, done, refused, _when_}

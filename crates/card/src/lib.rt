@@ -4,27 +4,7 @@ ghost use mathlib.Core.Bool.{false};
 ghost use lib.ListN.{length};
 ghost use Rattle.entries.specs.Entries.{entriesOf, badPairs};
 ghost use Rattle.keys.specs.declared.Meaning.the-variants.{Sets};
-ghost use Rattle.card.specs.Card.{
-  assigned,
-  parametersOf,
-  defaultVto,
-  defaultsOf,
-  kpFrom,
-  polarityOf,
-  givenIf,
-  cardRecordOf,
-  freshGeometry,
-  freshScaled,
-  freshTerminals,
-  freshPoint,
-  freshCharges,
-  noHistory,
-  freshHistories,
-  freshDevice,
-  outcomeOfCard,
-  cardOf,
-  cardListOf,
-};
+ghost use Rattle.card.specs.Card.{assigned, parametersOf, defaultVto, defaultsOf, kpFrom, polarityOf, givenIf, cardRecordOf, freshGeometry, freshScaled, freshTerminals, freshPoint, freshCharges, freshHistories, freshDevice, outcomeOfCard, cardOf, cardListOf};
 use device::Card;
 use device::ChargeHistory;
 use device::Charges;

@@ -1,6 +1,6 @@
 -- The fourteen cases hold: each is computed, from four values of the elementary functions.
 use mathlib.Core.Path.{_≡_, refl, sym, ap, subst, _∙_}
-use mathlib.Core.Bool.{true, false, cond}
+use mathlib.Core.Bool.{true, cond}
 use lib.Ieee.{Float, binary64, round, neg, add, sub, mul, div, lt, le, eq, ofBits}
 use Rattle.exact.specs.Float64.{_⊕_, _⊖_, _⊗_, _⊘_, _>f_, +0, +1, absolute, maximum}
 use Rattle.elementary.specs.Functions.{sqrtOf, expOf}
@@ -17,7 +17,7 @@ use Rattle.junction.specs.Junction.{bulkJunctionOf, shockleyOf}
 use Rattle.bias.specs.Bias.{keptOf, channelAnswerOf, answerFromOf, evaluatedChannelOf, evaluatedVthOf, evaluatedBodyOf}
 use Rattle.mosfet1.specs.Steps.{evaluatedAnswerOf}
 use Rattle.bias.specs.declared.Answer.{Answer}
-use Rattle.cases.specs.FourteenCases.{num, sixTenths, With, Plain, Modulated, WithBody, PlainPmos, at, Conducts, Shows, ShowsBody, past, FourteenCases}
+use Rattle.cases.specs.FourteenCases.{num, sixTenths, With, at, Conducts, Shows, ShowsBody, past, FourteenCases}
 
 -- √9 = 3, √4 = 2, √0.6 rounded, exp 0 = 1
 pub record Values : Type 0 where

@@ -1,7 +1,7 @@
 -- The fourteen cases of document 01, in the Level-1 definition's own terms.
 use Prim.Native.Nat.{ℕ}
 use mathlib.Core.Path.{_≡_}
-use mathlib.Core.Bool.{Bool, true, false}
+use mathlib.Core.Bool.{true, false}
 use lib.Ieee.{Float, binary64, round, neg, ofBits}
 use Rattle.exact.specs.Float64.{_⊖_, +0, +1}
 use Rattle.device.specs.declared.Mosfet1.{Mosfet1}
@@ -14,9 +14,7 @@ use Rattle.channel.specs.Channel.{regionOf}
 use Rattle.reactive.specs.Charge.{chargeCurrentOf}
 use Rattle.junction.specs.Junction.{bulkJunctionOf}
 use Rattle.channel.specs.declared.Region.the-variants.{Saturation}
-use Rattle.junction.specs.declared.Junction.{Junction}
 use Rattle.mosfet1.specs.Steps.{evaluatedAnswerOf}
-use Rattle.bias.specs.declared.Voltages.{Voltages}
 use Rattle.bias.specs.declared.Answer.{Answer}
 
 -- n / d, rounded

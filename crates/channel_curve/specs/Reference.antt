@@ -3,11 +3,9 @@
 use mathlib.Core.Bool.{false}
 use lib.Ieee.{Float, binary64, ofBits}
 use Rattle.exact.specs.Float64.{+0, +1}
-use Rattle.temperature.specs.declared.Kelvin.{Kelvin}
 use Rattle.device.specs.declared.Card.{Card}
 use Rattle.device.specs.declared.ChargeHistory.{ChargeHistory}
 use Rattle.device.specs.declared.Geometry.{Geometry}
-use Rattle.device.specs.declared.Histories.{Histories}
 use Rattle.device.specs.declared.Mosfet1.{Mosfet1}
 use Rattle.device.specs.declared.OperatingPoint.{OperatingPoint}
 use Rattle.device.specs.declared.Scaled.{Scaled}

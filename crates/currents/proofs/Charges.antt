@@ -1,12 +1,10 @@
 -- A transient load's charge branches on a device that holds a transient evaluation.
-use mathlib.Core.Path.{_≡_, refl, sym, ap, _∙_, subst}
-use mathlib.Core.Bool.{Bool, true, false, not, _&&_, cond}
+use mathlib.Core.Path.{_≡_, refl, sym, subst}
+use mathlib.Core.Bool.{Bool, true, false, not, _&&_}
 use mathlib.Core.List.{List}
-use Prim.Native.Nat.{ℕ, _^_}
-use native.Mathlib.Omega.{arith}
+use Prim.Native.Nat.{_^_}
 use lib.Dec.{T}
 use lib.IntN.{pos}
-use lib.ListN.{length}
 use lib.Ieee.{Float}
 use Rattle.exact.specs.Fraction.{nat}
 use Rattle.exact.specs.Float64.{_⊗_, _≤f_, +1}
@@ -14,7 +12,6 @@ use Rattle.exact.specs.Size.{AtMost, Range}
 use Rattle.exact.proofs.Computing.{computing}
 use Rattle.exact.proofs.Ranges.{range-constants}
 use Rattle.exact.proofs.Sizes.{atMost-weaken}
-use Rattle.device.specs.declared.ChargeHistory.{ChargeHistory}
 use Rattle.device.specs.declared.Charges as device
 use Rattle.device.specs.declared.Discretisation.{Discretisation}
 use Rattle.device.specs.declared.Discretisation.the-variants.{None, Euler, Trapezoid, Gear}
@@ -23,7 +20,6 @@ use Rattle.device.specs.declared.Given.{Given}
 use Rattle.device.specs.declared.Histories.{Histories}
 use Rattle.device.specs.declared.Mosfet1.{Mosfet1}
 use Rattle.reactive.specs.Charge.{hasStepOf}
-use Rattle.bias.specs.declared.Answer.{Answer}
 use Rattle.bias.specs.declared.Voltages.{Voltages}
 use Rattle.capacitance.specs.declared.GateShares.{GateShares}
 use Rattle.capacitance.specs.declared.Grading.{Grading}
@@ -34,7 +30,7 @@ use Rattle.stamps.specs.declared.ChargeBranch.{ChargeBranch}
 use Rattle.assembly.specs.Assembly.{Pattern}
 use Rattle.loading.specs.Loading.{loadRows, loadOf, alphaLimit, alphaInside, alphaOutside}
 use Rattle.loading.specs.declared.LoadKind.{LoadKind}
-use Rattle.loading.specs.declared.LoadKind.the-variants.{DirectCurrent, Transient}
+use Rattle.loading.specs.declared.LoadKind.the-variants.{Transient}
 use Rattle.device.specs.Refusals.{done}
 use Rattle.device.proofs.Rows.{passed}
 use Rattle.evaluation_sizes.specs.Arguments as arguments
@@ -43,7 +39,7 @@ use Rattle.evaluation_sizes.proofs.Evaluated.{difference-range}
 use Rattle.evaluation_sizes.proofs.Gate.{gate-atMost}
 use Rattle.evaluation_sizes.proofs.Limiter.{difference-atMost}
 use Rattle.call_lists.specs.LastEvaluation.{EvaluationMade, voltagesAt, answerAt, chargesAt}
-use Rattle.charge_current.specs.ChargeCurrent.{exactTerms, ChargeReturns, MethodSizes, HoldsBefore, IfHeld, RecordedSize, ChargeSizes, OnlyZeros}
+use Rattle.charge_current.specs.ChargeCurrent.{exactTerms, ChargeReturns, MethodSizes, HoldsBefore, IfHeld, RecordedSize, OnlyZeros}
 use Rattle.charge_current.proofs.Returns.{charge-returns}
 use Rattle.currents.specs.Branches.{Branch, gs, gd, gb, bs, bd, posOf, negOf, voltageOf, capacitanceOf, chargeOf, pastOf, historyLoaded, loadedBranch}
 

@@ -1,6 +1,6 @@
 -- THE THEOREM of demand 3: every accepted load after every list of calls on a fresh device.
-use mathlib.Core.Path.{_≡_, refl, sym, ap, _∙_, subst}
-use mathlib.Core.Bool.{Bool, true, false}
+use mathlib.Core.Path.{_≡_, refl, sym, subst}
+use mathlib.Core.Bool.{true, false}
 use mathlib.Core.List.{List}
 use lib.Ieee.{Float}
 use Rattle.exact.specs.Float64.{_⊗_}
@@ -10,7 +10,7 @@ use Rattle.device.specs.declared.Histories.{Histories}
 use Rattle.device.specs.declared.Mosfet1.{Mosfet1}
 use Rattle.bias.specs.declared.Kept.{Kept}
 use Rattle.assembly.specs.Assembly.{Pattern}
-use Rattle.loading.specs.Loading.{Loaded, loadOf, branchesOf, alphaOutside}
+use Rattle.loading.specs.Loading.{loadOf, branchesOf, alphaOutside}
 use Rattle.loading.specs.declared.LoadKind.{LoadKind}
 use Rattle.loading.specs.declared.LoadKind.the-variants.{DirectCurrent, Transient}
 use Rattle.device.specs.Refusals.{done}
@@ -27,14 +27,14 @@ use Rattle.evaluation_sizes.specs.Arguments.{VoltagesSizes, EvaluationAccepted}
 use Rattle.evaluation_sizes.proofs.Accepted.{eval-row-accepted}
 use Rattle.reachable.specs.DeviceBounds.{DeviceBounds}
 use Rattle.reachable.proofs.Reachable.{every-list-in-bounds, last-evaluation-in-bounds}
-use Rattle.channel_current.specs.ChannelCurrent.{ChannelStamp, ChannelReturns}
+use Rattle.channel_current.specs.ChannelCurrent.{ChannelReturns}
 use Rattle.channel_current.proofs.ChannelReturns.{channel-returns}
 use Rattle.junction_current.specs.JunctionCurrent.{JunctionReturns}
 use Rattle.junction_current.proofs.Returns.{junction-returns}
 use Rattle.charge_current.specs.ChargeCurrent.{ChargeReturns, RecordedSize, HoldsBefore, OnlyZeros, exactTerms}
 use Rattle.currents.specs.Loaded.{JunctionStamp, loadedChannel, loadedSourceJunction, loadedDrainJunction}
-use Rattle.currents.specs.Branches.{Branch, voltageOf, capacitanceOf, chargeOf, pastOf, historyLoaded, loadedBranch}
-use Rattle.currents.specs.Currents.{channelAt, polarityAt, temperatureAt, sourceVoltage, drainVoltage, sourceSaturation, drainSaturation, recounted, Premises, BranchesReturn, CurrentsReturn, LoadHolds, EveryLoadHolds}
+use Rattle.currents.specs.Branches.{Branch, voltageOf, capacitanceOf, chargeOf, pastOf, loadedBranch}
+use Rattle.currents.specs.Currents.{channelAt, polarityAt, temperatureAt, sourceVoltage, drainVoltage, sourceSaturation, drainSaturation, recounted, Premises, BranchesReturn, EveryLoadHolds}
 use Rattle.currents.proofs.Places.{loaded-places}
 use Rattle.currents.proofs.Stamps.{channel-is-loaded, evaluatedSource, evaluatedDrain, source-is-loaded, drain-is-loaded}
 use Rattle.currents.proofs.Evaluations.{channel-sizes, source-sizes, drain-sizes}

@@ -1,20 +1,15 @@
 -- At an accepted evaluation on a device within the bounds: the premises of the channel's and the junctions' claims.
-use mathlib.Core.Path.{_≡_}
 use lib.IntN.{pos}
 use lib.Ieee.{Float}
-use Rattle.exact.specs.Fraction.{nat, negq}
-use Rattle.exact.specs.Float64.{_⊖_, _⊗_}
-use Rattle.exact.specs.Size.{AtMost, NonNegative, Range}
+use Rattle.exact.specs.Float64.{_⊗_}
+use Rattle.exact.specs.Size.{AtMost, NonNegative}
 use Rattle.exact.proofs.Computing.{computing}
 use Rattle.exact.proofs.FractionLaws.{lit-≤}
 use Rattle.exact.proofs.Ranges.{range-atMost}
-use Rattle.exact.proofs.Sizes.{atMost-weaken}
-use Rattle.device.specs.declared.Mosfet1.{Mosfet1}
-use Rattle.bias.specs.declared.Voltages.{Voltages}
-use Rattle.parameter_sizes.specs.ParameterSizes.{DeviceSizes, FromZero}
+use Rattle.parameter_sizes.specs.ParameterSizes.{FromZero}
 use Rattle.parameter_sizes.proofs.SizeLaws.{fromZero-⊗, fromZero-weaken, between-fromZero}
 use Rattle.evaluation_sizes.specs.Arguments.{VoltagesSizes, EvaluationAccepted}
-use Rattle.evaluation_sizes.specs.EvaluationSizes.{ParameterBounds, AnswerSizes}
+use Rattle.evaluation_sizes.specs.EvaluationSizes.{AnswerSizes}
 use Rattle.evaluation_sizes.proofs.Evaluated.{difference-range, evaluated-slope-atMost, answer-sizes}
 use Rattle.evaluation_sizes.proofs.Limiter.{difference-atMost}
 use Rattle.call_lists.specs.LastEvaluation.{EvaluationMade, voltagesAt, answerAt}
@@ -22,7 +17,7 @@ use Rattle.reachable.specs.DeviceBounds.{DeviceBounds}
 use Rattle.reachable.proofs.Reachable.{bounds-of}
 use Rattle.channel_current.specs.ChannelCurrent.{ChannelSizes}
 use Rattle.junction_current.specs.JunctionCurrent.{JunctionSizes}
-use Rattle.currents.specs.Branches.{voltageOf, bs, bd}
+use Rattle.currents.specs.Branches.{voltageOf}
 use Rattle.currents.specs.Currents.{channelAt, polarityAt, temperatureAt, sourceVoltage, drainVoltage, sourceSaturation, drainSaturation}
 
 module _ (e : EvaluationMade) (B : DeviceBounds (e .device)) (A : EvaluationAccepted (e .device) (e .x) (e .conditions)) where

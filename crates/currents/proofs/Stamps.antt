@@ -5,8 +5,6 @@ use Rattle.exact.specs.Float64.{_⊗_, _⊘_}
 use Rattle.device.specs.declared.Mosfet1.{Mosfet1}
 use Rattle.device.specs.declared.OperatingPoint.{OperatingPoint}
 use Rattle.channel.specs.Channel.{shichmanHodgesOf}
-use Rattle.channel.specs.declared.Channel.{Channel}
-use Rattle.junction.specs.Junction.{junctionOffsetOf}
 use Rattle.bias.specs.Bias.{evaluatedVthOf, evaluatedChannelOf, answerFromOf, channelAnswerOf, stampFromOf, junctionStampOf, operatingPointOf}
 use Rattle.bias.specs.declared.Kept.{Kept}
 use Rattle.mosfet1.specs.Steps.{evaluatedAnswerOf, evaluatedPointOf}

@@ -7,7 +7,7 @@ use Rattle.assembly.specs.Assembly.{Pattern, addCells, addSources}
 use Rattle.loading.specs.Loading.{Loaded, ifDone, jacobianContributions, rhsContributions}
 use Rattle.loading.specs.declared.LoadKind.{LoadKind}
 use Rattle.device.specs.Refusals.{Outcome, done}
-use Rattle.call_lists.specs.Calls.{Call, loading, answer, loadingAnswer}
+use Rattle.call_lists.specs.Calls.{loading, answer, loadingAnswer}
 use Rattle.call_lists.specs.F64.{Every, none, next, IsF64}
 use Rattle.currents.specs.Currents.{EveryLoadInAListHolds}
 use Rattle.currents.proofs.Currents.{currents-return}

@@ -23,7 +23,7 @@ use Rattle.channel_current.specs.ChannelCurrent.{ChannelInputs, ChannelReturns}
 use Rattle.temperature.specs.declared.Kelvin.{Kelvin}
 use Rattle.junction_current.specs.JunctionCurrent.{WithinThermalVoltages, JunctionReturns}
 use Rattle.charge_current.specs.ChargeCurrent.{RecordedSize, HoldsBefore, OnlyZeros, ChargeReturns, exactTerms}
-use Rattle.currents.specs.Loaded.{JunctionStamp, loadedChannel, loadedSourceJunction, loadedDrainJunction}
+use Rattle.currents.specs.Loaded.{loadedChannel, loadedSourceJunction, loadedDrainJunction}
 use Rattle.currents.specs.Places.{LoadedPlaces}
 use Rattle.currents.specs.Branches.{Branch, voltageOf, capacitanceOf, chargeOf, pastOf, historyLoaded, loadedBranch}
 

@@ -1,6 +1,6 @@
 -- The lines of an input whose first line has begun already.
 use Prim.Native.Nat.{ℕ}
-use mathlib.Core.Path.{_≡_, refl, sym, _∙_, ap}
+use mathlib.Core.Path.{_≡_, refl, ap}
 use mathlib.Core.List.{List, [], _∷_, _++_}
 use Rattle.curve_lines.specs.Printed.{longer}
 

@@ -1,6 +1,6 @@
 -- How much room the text of a piece needs: two and a half bytes for each byte that is read, and four for a bad line. So the
 -- program's buffers hold all that is printed, and nothing is left out.
-use Prim.Native.Nat.{ℕ, zero, suc, _+_, _*_, _≤_, _<_, min}
+use Prim.Native.Nat.{ℕ, zero, suc, _+_, _*_, _≤_, _<_}
 use mathlib.Core.Path.{_≡_, refl, sym, _∙_, ap}
 use mathlib.Core.Bool.{Bool, true, false, cond}
 use mathlib.Core.List.{List, [], _∷_, _++_, append-nil, append-assoc}
@@ -11,7 +11,6 @@ use lib.Ieee.{Float, binary64, isNan, toBits}
 use lib.ListN.{length, take, set, length-append, length-take, length-set}
 use lib.Seq.{take-suc-set}
 use borrow.Author.Tests.{eqb-true, eqb-false, ltb-true, lt-ltb}
-use Rattle.device.specs.declared.OperatingPoint.{OperatingPoint}
 use Rattle.hex.specs.Text.{after, endOf, textAt, digitsOf, numberText}
 use Rattle.curve_text.specs.Answer.{answerText, pointText}
 use Rattle.curve_text.specs.declared.Point.{Point}

@@ -1,5 +1,5 @@
 -- `mantOf r`, in units of 2^-62, is e^(r / 2^64) within 6000 units, for r below 178 * 2^56. Assumes nothing.
-use mathlib.Core.Path.{refl, sym, ap, _∙_, subst}
+use mathlib.Core.Path.{sym, ap, _∙_, subst}
 use mathlib.Core.Bool.{Bool}
 use Prim.Native.Nat.{ℕ, _+_, _*_, _/_, _%_, _^_, _≤_, _<_}
 use native.Mathlib.Nat.{le-trans, le-of-eq, le-of-lt, lt-div-mul-add, div-mul-le-self, div-add-mod', mod-lt, mul-assoc, mul-add, add-mul, add-le-add, mul-le-mul-right, le-add-right, one-mul}

@@ -1,6 +1,6 @@
 // The exponential in fixed point.
 ghost use mathlib.Core.Path.{_≡_};
-ghost use Prim.Native.Nat.{_+_, _*_, _/_, _%_, _^_, _≤_, _<_};
+ghost use Prim.Native.Nat.{_+_, _*_, _/_, _^_, _≤_, _<_};
 ghost use lib.ListN.{getD};
 ghost use lib.Dec.{T};
 ghost use lib.Ieee.{binary64, ofBits, le};

@@ -11,7 +11,7 @@ use lib.Pow.{pow-pos}
 use lib.IntN.{ℤ, pos, negsuc}
 use borrow.Author.Tests.{ltb-true, ltb-false, eqb-true, eqb-false, eq-eqb, lt-ltb, le-ltb}
 use lib.Ieee.{Float, nan, inf, fin, binary64, up, down, neg, lt, le, eq, ne, div, ofBits, below, level, fits}
-use lib.Ieee.Fits.{up-pos, down-pos}
+use lib.Ieee.Fits.{up-pos}
 use lib.Ieee.Compare.{differs-from-itself}
 use Rattle.exact.specs.Float64.{+0, +1, _⊘_, _<f_, _>f_, _≥f_, _≠f_, _=f_, absolute, signum, maximum}
 

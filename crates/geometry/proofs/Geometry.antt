@@ -2,10 +2,10 @@
 use mathlib.Core.Path.{_≡_, refl, sym, ap, _∙_}
 use mathlib.Core.Bool.{Bool, true, false, _&&_, and-false}
 use mathlib.Core.List.{List, [], _∷_}
-use Prim.Native.Nat.{ℕ, suc, _+_, _<_}
+use Prim.Native.Nat.{ℕ, _+_, _<_}
 use native.Mathlib.Numerals.{add-one}
 use native.Mathlib.Omega.{arith}
-use lib.Ieee.{Float, nan, inf, fin, binary64, lt, div, ofBits}
+use lib.Ieee.{Float, nan, inf, fin, lt, div, ofBits}
 use lib.ListN.{length, getD}
 use lib.Seq.{sets}
 use Rattle.exact.specs.Float64.{_⊘_, _<f_, _>f_, +0, +1}

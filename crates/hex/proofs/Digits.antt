@@ -3,17 +3,16 @@ use Prim.Native.Nat.{ℕ, zero, suc, _+_, _-_, _*_, _^_, _≤_, _<_}
 use mathlib.Core.Path.{_≡_, refl, sym, _∙_, ap, subst}
 use mathlib.Core.Bool.{Bool, true, false, cond}
 use mathlib.Core.List.{List, [], _∷_}
-use native.Mathlib.Nat.{le-of-suc-le-suc, mul-le-mul-right, mul-le-mul-left, le-trans, le-of-eq}
-use native.Mathlib.Numerals.{add-one}
+use native.Mathlib.Nat.{le-of-suc-le-suc, le-trans}
 use native.Mathlib.Omega.{arith}
-use lib.Dec.{T, ltb, lt→ltb}
+use lib.Dec.{ltb}
 use lib.Pow.{pow-add, pow-mono}
-use lib.ListN.{length, drop, getD, length-drop}
+use lib.ListN.{length, drop, getD}
 use lib.Seq.{drop-cons}
 use borrow.Author.Tests.{lt-ltb, le-ltb}
 use Rattle.hex.specs.declared.read.Bits.{Bits}
-use Rattle.hex.specs.declared.read.Bits.the-variants.{Is, Not}
-use Rattle.hex.specs.Hex.{digitOf, digitsAfter, bitsAt}
+use Rattle.hex.specs.declared.read.Bits.the-variants.{Not}
+use Rattle.hex.specs.Hex.{digitOf, digitsAfter}
 
 cond-same : {A : Type 0} (b : Bool) (x : A) → cond b x x ≡ x
 cond-same true x = refl

@@ -5,9 +5,8 @@ use mathlib.Core.List.{List, [], _∷_}
 use native.Mathlib.Nat.{le-of-suc-le-suc}
 use native.Mathlib.Numerals.{add-one}
 use native.Mathlib.Omega.{arith}
-use lib.ListN.{length, set, drop, getD, length-set}
+use lib.ListN.{length, set, drop, getD}
 use lib.Seq.{drop-cons}
-use borrow.Author.Tests.{lt-ltb, le-ltb}
 use Rattle.hex.specs.Text.{after, endOf, textAt, byteOf, digitsOf}
 
 -- nothing is left past the end

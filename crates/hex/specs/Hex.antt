@@ -1,8 +1,8 @@
 -- Numbers written in hexadecimal: lower-case digits, the highest first.
 use Prim.Native.Nat.{ℕ, zero, suc, _+_, _-_, _*_}
-use mathlib.Core.Bool.{Bool, true, false, cond, _&&_}
+use mathlib.Core.Bool.{cond}
 use mathlib.Core.List.{List, [], _∷_}
-use lib.Dec.{leb, ltb}
+use lib.Dec.{ltb}
 use lib.ListN.{drop}
 use Rattle.hex.specs.declared.read.Bits.{Bits}
 use Rattle.hex.specs.declared.read.Bits.the-variants.{Is, Not}

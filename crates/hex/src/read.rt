@@ -1,6 +1,6 @@
 // 64 bits as sixteen hexadecimal digits.
 ghost use mathlib.Core.Path.{_≡_};
-ghost use Prim.Native.Nat.{_+_, _≤_, _<_};
+ghost use Prim.Native.Nat.{_+_, _<_};
 ghost use lib.Ieee.{binary64, ofBits};
 ghost use Rattle.hex.specs.Hex.{digitOf, bitsAt};
 

@@ -1,6 +1,6 @@
 // Text into a lent buffer. Each function writes from at on and answers the place after; what has no room is left out.
 ghost use mathlib.Core.Path.{_≡_};
-ghost use Prim.Native.Nat.{_+_, _≤_, _<_};
+ghost use Prim.Native.Nat.{_+_, _<_};
 ghost use lib.ListN.{length, set};
 ghost use Rattle.hex.specs.Text.{after, textAt, endOf, byteOf, numberText};
 

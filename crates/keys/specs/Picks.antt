@@ -1,6 +1,6 @@
 -- A later key overrides: the value of a parameter after one key more.
 use Prim.Native.Nat.{ℕ}
-use mathlib.Core.Bool.{Bool, true, false, cond, _||_}
+use mathlib.Core.Bool.{Bool, false, cond, _||_}
 use lib.Dec.{eqb}
 use lib.Ieee.{Float}
 use Rattle.keys.specs.declared.Key.{Key}

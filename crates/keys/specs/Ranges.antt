@@ -1,7 +1,7 @@
 -- The ranges of the parameters, ends included: one table for the card and the geometry call.
 use mathlib.Core.Bool.{Bool, true, false, not, _||_}
 use lib.Ieee.{Float, binary64, ofBits, neg}
-use Rattle.exact.specs.Float64.{_=f_, _⊕_, +0, +1}
+use Rattle.exact.specs.Float64.{_=f_, +0, +1}
 use Rattle.temperature.specs.Temperature.{kelvinOf}
 use Rattle.device.specs.Limits.{within, outsideTemperatures}
 use Rattle.keys.specs.declared.Key.{Key}

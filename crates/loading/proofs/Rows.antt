@@ -5,7 +5,7 @@ use mathlib.Core.List.{List}
 use Prim.Native.Nat.{ℕ, _≤_}
 use native.Mathlib.Omega.{arith}
 use lib.ListN.{length}
-use lib.Dec.{T, eqb}
+use lib.Dec.{T}
 use lib.Ieee.{Float}
 use borrow.Author.Tests.{eqb-true, eq-eqb, ne-eqb, le-ltb, ltb-false, leb-false, lt-leb}
 use Rattle.pattern.specs.Pattern.{wellFormed, pairsFit}
@@ -23,7 +23,7 @@ use Rattle.stamps.specs.Stamps.{jacValuesOf, residualOf}
 use Rattle.stamps.specs.declared.Residual.{Residual}
 use Rattle.stamps.specs.declared.ChargeBranches.{ChargeBranches}
 use Rattle.places.specs.Places.{skippedNumber, indexOf, nodeAt, nodesOf, terminalsAt}
-use Rattle.assembly.specs.Assembly.{Pattern, Contribution, Source, matrixContributions, sourceContributions, allThere, addCells, addSources, Assembled}
+use Rattle.assembly.specs.Assembly.{Pattern, matrixContributions, sourceContributions, allThere, Assembled}
 use Rattle.loading.specs.Loading.{nodesOutside, alphaOutside, branchesOf, jacobianContributions, rhsContributions, loadOf, ifDone, Loaded, earlyRow}
 use Rattle.loading.specs.declared.LoadKind.{LoadKind}
 

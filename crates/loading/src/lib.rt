@@ -11,7 +11,6 @@ ghost use mathlib.Core.Path.{_≡_};
 ghost use mathlib.Core.Bool.{not};
 ghost use lib.ListN.{length};
 ghost use Rattle.pattern.specs.Pattern.{wellFormed};
-ghost use Rattle.assembly.specs.Assembly.{Pattern};
 ghost use Rattle.device.specs.Nodes.{nodeBeyond, anyNodeBeyond};
 ghost use Rattle.device.specs.Stages.{unbound, unevaluated};
 ghost use Rattle.loading.specs.Loading.{nodesOutside, alphaInside, alphaOutside, noBranches, branchesOf, earlyRow, outcomeOfLoad, Loaded};

@@ -3,13 +3,13 @@ use mathlib.Core.Path.{_≡_, refl, sym, ap, subst}
 use mathlib.Core.Logic.{inl, inr}
 use mathlib.Core.Bool.{Bool, true, false, cond, not, _||_}
 use mathlib.Core.List.{[], _∷_}
-use Prim.Native.Nat.{ℕ, zero, suc, _+_, _-_, _*_, _/_, _%_, _^_, _≤_, _<_, zero-le}
+use Prim.Native.Nat.{ℕ, _+_, _-_, _*_, _/_, _%_, _^_, _≤_, _<_, zero-le}
 use native.Mathlib.Nat.{zero-lt-suc, le-trans, le-of-eq, mul-le-mul, mul-le-mul-right, mul-pos, mul-one, mod-lt, not-le-of-lt, mul-lt-mul-of-pos-left}
 use native.Mathlib.Omega.{arith}
 use lib.Dec.{T, ltb, eqb, eqb→eq, ltb→lt, lit<, lit≤}
 use lib.Pow.{pow-pos, pow-mono}
-use lib.IntN.{ℤ, pos}
-use lib.Ieee.{Float, nan, inf, fin, binary64, up, down, lt, le, eq, fits, ofBits, toBits, neg, add, round, low}
+use lib.IntN.{ℤ}
+use lib.Ieee.{Float, nan, inf, fin, binary64, up, down, lt, le, eq, fits, ofBits, toBits, round, low}
 use lib.Ieee.Bits.{is-true}
 use borrow.Author.Tests.{lt-ltb, ltb-true}
 use lib.Ieee.Fits.{add-fits, and-l, up-pos}
@@ -21,8 +21,8 @@ use Rattle.exact.specs.Float64.{_⊕_, _<f_, _≤f_, +0, +1}
 use Rattle.exact.proofs.FractionLaws.{≈-refl, ≈-sym, ≤-of-≈, ≤-trans, ≤-antisym, nat-+, nat-*, *-mono, *-comm, neg-mono, lit-≤}
 use Rattle.exact.proofs.FractionProver.{qv, ##, _÷_, _⊞_, _⊟_, _⊠_, ⊝, leq, req, linq, _⊑_by_, nat-≤}
 use Rattle.exact.proofs.Closeness.{abs-le, le-abs, neg-le-abs, within-≈}
-use Rattle.exact.proofs.Comparisons.{lt→≤, nlt→≤}
-use Rattle.exact.proofs.Rounding.{Rounded, add-rounded, add-near, neg-finite, value-neg, within-neg, largest, frac-nonneg}
+use Rattle.exact.proofs.Comparisons.{nlt→≤}
+use Rattle.exact.proofs.Rounding.{Rounded, add-rounded, add-near, neg-finite, value-neg, within-neg, frac-nonneg}
 use Rattle.exact.proofs.RoundingGrid.{half-top, grid-under, round-value, value-finite}
 use Rattle.series.specs.Series.{E, Enough}
 use Rattle.series.proofs.Quotients.{frac-≤, frac-nat, cross-≤, ≤-or}

@@ -5,11 +5,10 @@ use Prim.Native.Nat.{ℕ, _+_, _*_, _/_, _^_, _≤_, _<_}
 use native.Mathlib.Nat.{le-of-lt}
 use native.Mathlib.Omega.{arith}
 use lib.Dec.{T, ltb}
-use lib.IntN.{pos}
 use lib.Pow.{pow-pos}
 use lib.Ieee.{Float, nan, inf, fin, binary64, lt, eq, fits, ofBits, toBits}
 use lib.Ieee.Scale.{finite}
-use Rattle.exact.specs.Fraction.{_//_, nat, _≤q_, _≈q_}
+use Rattle.exact.specs.Fraction.{_//_, nat, _≈q_}
 use Rattle.exact.specs.FloatValue.{value}
 use Rattle.exact.specs.Float64.{+0, +1}
 use Rattle.exact.proofs.Computing.{computing}
@@ -23,7 +22,6 @@ use Rattle.exponential.proofs.Ranges.{cond-yes, cond-then, cond-else}
 use Rattle.logarithm.specs.Logarithm.{logBits, logOf}
 use Rattle.logarithm.specs.declared.Log.{Log}
 use Rattle.logarithm.specs.declared.Log.the-variants.{Undefined, BaseZero, BaseOne, Above, Below}
-use Rattle.logarithm.proofs.WholeBounds.{Fixed}
 use Rattle.logarithm.proofs.Decoded.{Decoded, over, under, decoded}
 use Rattle.logarithm.proofs.Enclosed.{range, value-of, not-one}
 

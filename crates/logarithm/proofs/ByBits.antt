@@ -2,7 +2,7 @@
 use mathlib.Core.Path.{_≡_, refl, sym, ap, _∙_}
 use mathlib.Core.Bool.{Bool, true, false, cond, not, _||_}
 use Prim.Native.Nat.{ℕ, _+_, _-_, _*_, _/_, _%_, _^_, _≤_, _<_}
-use native.Mathlib.Nat.{le-trans, le-of-eq, lt-of-not-le, lt-of-le-of-lt, not-le-of-lt, le-of-mul-le-mul-right, mul-one}
+use native.Mathlib.Nat.{le-trans, le-of-eq, lt-of-not-le, lt-of-le-of-lt, not-le-of-lt, le-of-mul-le-mul-right}
 use native.Mathlib.Decide.{decLe}
 use native.Mathlib.Omega.{arith}
 use borrow.Author.Tests.{lt-ltb, le-ltb}
@@ -23,7 +23,7 @@ use Rattle.series.proofs.Quotients.{cross-≤}
 use Rattle.exponential.proofs.Ranges.{cond-yes, cond-then, cond-else}
 use Rattle.logarithm.specs.FixedPoint.{lnMantOf, twosOf, nearOne}
 use Rattle.logarithm.specs.Logarithm.{leastNormal, logAbove, logBelow, logBits, logOf, roundedOf, lnFrom, lnOf}
-use Rattle.logarithm.specs.declared.Log.the-variants.{Undefined, BaseZero, BaseOne, Above, Below}
+use Rattle.logarithm.specs.declared.Log.the-variants.{Undefined, BaseZero, BaseOne}
 use Rattle.logarithm.proofs.Enclosed.{range, value-of}
 use Rattle.logarithm.proofs.BelowOne.{finite-between}
 use Rattle.logarithm.proofs.Accuracy.{above-zero, one-fits, least-finite}

@@ -1,12 +1,11 @@
 -- A positive finite float lies between E at its logarithm in fixed point less 2^-45 and E at it plus 2^-45. Assumes nothing.
 use mathlib.Core.Path.{_≡_, refl, sym, ap, _∙_, subst}
-use mathlib.Core.Bool.{Bool, true, false, cond, not, _||_}
+use mathlib.Core.Bool.{Bool, true, false, cond, _||_}
 use mathlib.Core.List.{[], _∷_}
 use Prim.Native.Nat.{ℕ, _+_, _*_, _^_, _≤_, _<_}
 use native.Mathlib.Omega.{arith}
 use lib.Dec.{T, eqb, eqb→eq}
 use lib.Pow.{pow-pos}
-use lib.IntN.{pos}
 use lib.Ieee.{Float, nan, inf, fin, binary64, up, down, lt, eq, fits, ofBits, toBits}
 use lib.Ieee.Bits.{ofBits-toBits}
 use lib.Ieee.Fits.{and-l, and-r, down-pos}
@@ -14,7 +13,7 @@ use Rattle.exact.specs.Fraction.{ℚ, _//_, nat, _+q_, _-q_, negq, _*q_, _≤q_
 use Rattle.exact.specs.FloatValue.{value}
 use Rattle.exact.specs.Float64.{+0, +1}
 use Rattle.exact.proofs.FractionLaws.{≈-refl, ≈-sym, ≤-of-≈, ≤-trans, *-cong, *-mono, *-comm, one-*}
-use Rattle.exact.proofs.FractionProver.{qv, ##, _⊞_, _⊟_, _⊠_, ⊝, req, _⊑_by_}
+use Rattle.exact.proofs.FractionProver.{qv, ##, _⊞_, _⊟_, _⊠_, ⊝, req}
 use Rattle.exact.proofs.Rounding.{frac-nonneg}
 use Rattle.exact.proofs.Tests.{clash}
 use Rattle.exact.proofs.PositivePatterns.{unitsOf, units-of-pattern, bits-above}

@@ -1,12 +1,12 @@
 -- A number above 1 lies between E at its logarithm less 2^-45 and E at its logarithm plus 2^-45, for every sum with enough terms. Assumes nothing.
-use mathlib.Core.Path.{_≡_, refl, sym}
+use mathlib.Core.Path.{_≡_, refl}
 use mathlib.Core.List.{[], _∷_}
-use Prim.Native.Nat.{ℕ, zero, suc, _+_, _-_, _*_, _^_, _≤_, _<_}
+use Prim.Native.Nat.{ℕ, _+_, _-_, _*_, _^_, _≤_, _<_}
 use native.Mathlib.Nat.{le-trans, le-of-eq, le-of-lt, lt-of-not-le, mul-assoc, mul-comm, mul-left-comm, mul-right-comm, mul-le-mul-left, mul-le-mul-right, le-of-mul-le-mul-right, sub-add-cancel, zero-lt-suc, le-add-right}
 use native.Mathlib.Decide.{decLe}
 use native.Mathlib.Omega.{arith}
 use lib.Dec.{lit≤, lit<}
-use Rattle.exact.specs.Fraction.{ℚ, _//_, nat, _+q_, _-q_, _≤q_, _≈q_}
+use Rattle.exact.specs.Fraction.{ℚ, _//_, _+q_, _-q_, _≤q_, _≈q_}
 use Rattle.exact.proofs.FractionLaws.{≈-refl, ≈-sym, ≤-of-≈, ≤-trans, ≤-antisym}
 use Rattle.exact.proofs.FractionProver.{qv, ##, _⊞_, _⊟_, linq, _⊑_by_}
 use Rattle.series.specs.Series.{E, Enough, top, bot}

@@ -2,12 +2,12 @@
 -- With y the rest of z to 1/128, each polynomial in z is one in z and y of the same degree, whose orders hold coefficient by coefficient.
 use mathlib.Core.Path.{_≡_, refl, sym, ap, _∙_, subst}
 use mathlib.Core.List.{[], _∷_}
-use Prim.Native.Nat.{ℕ, zero, suc, _+_, _-_, _*_, _/_, _^_, _≤_, _<_, zero-le}
+use Prim.Native.Nat.{ℕ, zero, suc, _+_, _-_, _*_, _^_, _≤_, _<_, zero-le}
 use native.Mathlib.Nat.{le-refl, le-trans, le-of-eq, le-of-lt, lt-div-mul-add, div-mul-le-self, mul-add, add-le-add, mul-le-mul, mul-le-mul-right, sub-add-cancel, sub-le, mul-zero, lt-of-not-le}
 use native.Mathlib.Decide.{decLe}
 use native.Mathlib.Omega.{arith}
 use lib.Dec.{lit≤, lit<}
-use Rattle.exact.proofs.NatProver.{Expr, ν, #, _⊹_, _⋆_, _↑_, val, poly-eq, poly-le, poly-by, _≼_by_}
+use Rattle.exact.proofs.NatProver.{Expr, ν, #, _⊹_, _⋆_, _↑_, poly-eq, poly-le, poly-by, _≼_by_}
 use Rattle.series.specs.Series.{top, bot}
 use Rattle.series.proofs.Product.{bot-pos}
 use Rattle.series.proofs.Bounds.{Up, Lo, doubled, up-doubled, up-weaken}

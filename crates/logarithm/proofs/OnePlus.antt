@@ -1,6 +1,6 @@
 -- 1 + a for a that is not negative: not below 1, so its bits say the logarithm without a test of the sign. Assumes nothing.
 use mathlib.Core.Path.{_≡_, sym}
-use mathlib.Core.Bool.{Bool, true, false, not}
+use mathlib.Core.Bool.{true, false, not}
 use mathlib.Core.List.{[], _∷_}
 use Prim.Native.Nat.{ℕ, _*_, _/_, _^_, _≤_, _<_}
 use native.Mathlib.Nat.{not-le-of-lt, lt-of-not-le}

@@ -1,7 +1,7 @@
 -- E with one number of terms tells arguments apart: E N u ≤ E N v only where u ≤ v. Assumes nothing.
-use mathlib.Core.Path.{_≡_, refl, sym, ap, _∙_, subst, subst₂}
+use mathlib.Core.Path.{_≡_, sym, ap, _∙_, subst, subst₂}
 use Prim.Native.Nat.{ℕ, zero, suc, _+_, _*_, _≤_, _<_, max}
-use native.Mathlib.Nat.{le-refl, le-trans, le-of-eq, lt-of-lt-of-le, lt-of-le-of-lt, lt-of-not-le, not-le-of-lt, add-lt-add-of-le-of-lt, add-lt-add-of-lt-of-le, mul-pos, mul-comm, mul-le-mul, mul-le-mul-left, mul-le-mul-right, mul-lt-mul-of-pos-left, le-of-mul-le-mul-right, le-of-mul-le-mul-left, pow-le-pow-left, zero-lt-suc, pow-succ', pow-zero, mul-one}
+use native.Mathlib.Nat.{le-refl, le-trans, le-of-eq, lt-of-lt-of-le, lt-of-le-of-lt, lt-of-not-le, not-le-of-lt, add-lt-add-of-le-of-lt, add-lt-add-of-lt-of-le, mul-pos, mul-comm, mul-le-mul-left, mul-le-mul-right, mul-lt-mul-of-pos-left, le-of-mul-le-mul-right, le-of-mul-le-mul-left, pow-le-pow-left, zero-lt-suc, pow-succ', pow-zero, mul-one}
 use native.Mathlib.Decide.{decLe}
 use native.Mathlib.Omega.{arith}
 use Rattle.exact.specs.Fraction.{ℚ, _//_, negq, _≤q_, _≈q_}

@@ -1,5 +1,5 @@
 -- The logarithm in fixed point, as a float: within 3/4 of 2^-42. Assumes nothing.
-use mathlib.Core.Path.{_≡_, refl, sym}
+use mathlib.Core.Path.{_≡_, refl}
 use mathlib.Core.Bool.{false}
 use mathlib.Core.List.{[], _∷_}
 use Prim.Native.Nat.{ℕ, _+_, _*_, _^_, _≤_, _<_}
@@ -7,12 +7,12 @@ use native.Mathlib.Nat.{zero-lt-suc}
 use native.Mathlib.Omega.{arith}
 use lib.Dec.{T, lit<, lit≤}
 use lib.IntN.{pos}
-use lib.Ieee.{binary64, ofInt, ofBits, neg}
+use lib.Ieee.{binary64, ofInt, ofBits}
 use lib.Ieee.Scale.{finite}
 use Rattle.exact.specs.Fraction.{_//_, nat, _+q_, _-q_, _*q_, absq, _≤q_, _≈q_, Within, leqb}
 use Rattle.exact.specs.FloatValue.{value, eps, tiny}
 use Rattle.exact.proofs.FractionLaws.{≈-refl, ≈-sym, ≤-of-≈, ≤-refl, ≤-trans, *-cong, *-mono, +-mono, lit-≤}
-use Rattle.exact.proofs.FractionProver.{qv, ##, _⊟_, leq, linq, _⊑_by_, nat-≤}
+use Rattle.exact.proofs.FractionProver.{qv, ##, _⊟_, linq, _⊑_by_, nat-≤}
 use Rattle.exact.proofs.Closeness.{within-mono, within-≈}
 use Rattle.exact.proofs.Rounding.{Rounded, rounds, frac-nonneg}
 use Rattle.exact.proofs.ErrorCalculus.{Est, weaken, est-mul}

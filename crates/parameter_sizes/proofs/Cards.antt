@@ -20,7 +20,6 @@ use Rattle.temperature_sizes.proofs.Intervals.{constant-in}
 use Rattle.device.specs.Limits.{coldest, hottest}
 use Rattle.device.specs.declared.Card.{Card}
 use Rattle.device.specs.Refusals.{done}
-use Rattle.device.specs.declared.Mosfet1.{Mosfet1}
 use Rattle.keys.specs.Names.{meaningOf}
 use Rattle.keys.specs.Picks.{isSet, pick}
 use Rattle.keys.specs.declared.Key.{Key}

@@ -1,5 +1,5 @@
 -- Laws of lookups in a row's part of the columns.
-use mathlib.Core.Path.{_≡_, refl, sym, ap, _∙_, subst}
+use mathlib.Core.Path.{_≡_, refl, sym, ap, _∙_}
 use mathlib.Core.Bool.{Bool, true, false, cond}
 use mathlib.Core.List.{List, _∷_}
 use Prim.Native.Nat.{ℕ, _+_, _^_, _≤_, _<_}
@@ -11,11 +11,10 @@ use borrow.Author.Tests.{ne-eqb, eq-eqb, eqb-true}
 use Rattle.pattern.specs.Pattern.{wellFormed, placeIn, cellOf, spanOf, guessOf}
 use Rattle.pattern.specs.declared.RowSpan.{RowSpan}
 use Rattle.pattern.specs.declared.Found.{Found}
-use Rattle.pattern.specs.declared.Found.the-variants.{At as FoundAt, Absent}
+use Rattle.pattern.specs.declared.Found.the-variants.{At as FoundAt}
 use Rattle.pattern.proofs.Spans.{part-known, cell-in-span, guess-right}
-use Rattle.device.specs.declared.NodeId.{NodeId}
 use Rattle.device.specs.declared.NodeId.the-variants.{Ground, At}
-use Rattle.places.specs.Places.{Pattern, Place, ground, missing, at, foundPlace, placeOf, skippedNumber, missingNumber, placeNumber, numberOf, nodeAt, SpanIn, spanNumber}
+use Rattle.places.specs.Places.{Pattern, foundPlace, placeOf, skippedNumber, placeNumber, numberOf, nodeAt, SpanIn, spanNumber}
 
 -- two lists that agree in the first element and in the rest
 infixr 5 _∷≡_

@@ -11,7 +11,7 @@ ghost use mathlib.Core.Bool.{true, cond};
 ghost use lib.ListN.{length};
 ghost use Rattle.pattern.specs.Pattern.{wellFormed};
 ghost use Rattle.stamps.specs.Stamps.{jacPairsOf};
-ghost use Rattle.places.specs.Places.{Pattern, indexOf, nodesOf, terminalsAt, SpanIn, spanNumber, numbersOf, gatePlacesOf, fourThere, noneMissing, branchesThere, anyGate, Looked};
+ghost use Rattle.places.specs.Places.{indexOf, nodesOf, terminalsAt, SpanIn, spanNumber, numbersOf, gatePlacesOf, fourThere, noneMissing, branchesThere, anyGate, Looked};
 
 // The six nodes, each by its index; ground is the number of a skipped place.
 pub struct Nodes {

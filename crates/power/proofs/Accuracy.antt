@@ -29,7 +29,7 @@ use Rattle.logarithm.proofs.Enclosure.{δ, fixed}
 use Rattle.logarithm.proofs.Enclosed.{Enclosed, Logged, one, above, below, logged}
 use Rattle.logarithm.proofs.Reflects.{E-reflects-≤}
 use Rattle.logarithm.proofs.Accuracy.{zero-value, zero-finite, one-finite}
-use Rattle.power.specs.Power.{four, minusFour, powerOf, productOf, raisedOf, nonzeroPower, powFrom, powOf}
+use Rattle.power.specs.Power.{minusFour, powerOf, productOf, raisedOf, nonzeroPower, powFrom, powOf}
 use Rattle.power.specs.Accuracy.{parts, Between, lower, upper}
 use Rattle.power.specs.Accuracy.AtLeast.{least-relative}
 use Rattle.power.specs.Accuracy.AtMost.{most-relative}

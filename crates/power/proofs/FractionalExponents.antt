@@ -1,7 +1,7 @@
 -- The powers of a base whose exponent is at most 1 in size, by the exponent's digits. Assumes nothing.
 use mathlib.Core.Path.{_≡_, refl, sym, ap, _∙_}
 use mathlib.Core.Bool.{Bool, true, false, cond, not}
-use Prim.Native.Nat.{ℕ, zero, suc, _*_, _/_, _^_, _≤_}
+use Prim.Native.Nat.{ℕ, zero, suc, _*_, _^_, _≤_}
 use native.Mathlib.Nat.{le-trans, le-of-eq, mul-one, mul-le-mul, mul-le-mul-right, mul-right-comm, div-le-of-le-mul, le-of-mul-le-mul-right}
 use native.Mathlib.Omega.{arith}
 use lib.Dec.{T, lit≤}
@@ -16,8 +16,8 @@ use Rattle.exponential.proofs.Cutting.{bounds}
 use Rattle.exponential.proofs.Ranges.{cond-else}
 use Rattle.logarithm.specs.declared.Log.{Log}
 use Rattle.logarithm.specs.declared.Log.the-variants.{Above, Below}
-use Rattle.power.specs.Power.{four, powerOf, productOf, raisedOf, powFrom, Fractional, Digits}
-use Rattle.power.proofs.RaisedBySize.{P, N, Answer, plus, minus}
+use Rattle.power.specs.Power.{four, powerOf, productOf, powFrom, Fractional, Digits}
+use Rattle.power.proofs.RaisedBySize.{P, Answer, plus, minus}
 
 pub fractional-positive : (p : Float) → Fractional p → T (positive p)
 unfolding ofBits

@@ -1,5 +1,5 @@
 -- The product of an exponent and a logarithm in fixed point, within 2^-43. Assumes nothing.
-use mathlib.Core.Path.{_≡_, refl, sym}
+use mathlib.Core.Path.{_≡_, refl}
 use Prim.Native.Nat.{ℕ, _+_, _*_, _/_, _^_, _≤_}
 use native.Mathlib.Nat.{le-trans, le-of-eq, le-of-lt, mul-pos, mul-le-mul-right, div-mul-le-self, lt-div-mul-add}
 use native.Mathlib.Omega.{arith}
@@ -12,7 +12,7 @@ use Rattle.exact.specs.FloatValue.{value}
 use Rattle.exact.proofs.FractionLaws.{≈-sym, ≤-of-≈, ≤-refl, ≤-trans, *-comm, *-mono, +-mono, lit-≤}
 use Rattle.exact.proofs.Rounding.{frac-nonneg}
 use Rattle.series.proofs.Quotients.{_⟫_, frac-≤, frac-*, frac-+}
-use Rattle.exponential.specs.Exponential.{fixedOf, greatest}
+use Rattle.exponential.specs.Exponential.{fixedOf}
 use Rattle.exponential.proofs.Cutting.{bounds}
 use Rattle.exponential.proofs.FixedPoint.{value-is}
 use Rattle.logarithm.proofs.Enclosure.{fixed}

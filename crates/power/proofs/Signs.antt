@@ -1,13 +1,13 @@
 -- The sign of an exponent and its size, by the tests of the code and by its value. Assumes nothing.
 use mathlib.Core.Path.{_≡_, refl, sym, _∙_, subst}
-use mathlib.Core.Bool.{Bool, true, false, not, _||_}
+use mathlib.Core.Bool.{Bool, true, false, _||_}
 use mathlib.Core.List.{[], _∷_}
 use Prim.Native.Nat.{ℕ, zero, suc, _+_, _*_, _≤_, _<_}
 use native.Mathlib.Nat.{zero-lt-suc, mul-pos}
 use native.Mathlib.Omega.{arith}
 use lib.Dec.{T, ltb, eqb, ltb→lt, eqb→eq}
-use lib.IntN.{ℤ, pos}
-use lib.Ieee.{Float, nan, inf, fin, up, down, lt, eq, below, level, neg, ofBits}
+use lib.IntN.{ℤ}
+use lib.Ieee.{Float, nan, inf, fin, up, down, lt, eq, below, level, ofBits}
 use lib.Ieee.Fits.{and-l, up-pos, down-pos}
 use lib.Ieee.Scale.{finite}
 use borrow.Author.Tests.{lt-ltb}

@@ -1,5 +1,5 @@
 -- The size of a power: a base between 2^-k and 2^k to an exponent of size at most 4 lies between 2^-(4k + 1) and 2^(4k + 1). Assumes nothing.
-use mathlib.Core.Path.{refl, sym}
+use mathlib.Core.Path.{sym}
 use mathlib.Core.Bool.{Bool, true, false, cond}
 use mathlib.Core.List.{[], _∷_}
 use Prim.Native.Nat.{ℕ, _+_, _*_, _^_, _≤_, _<_}

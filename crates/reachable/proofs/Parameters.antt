@@ -1,7 +1,5 @@
 -- From the bounds of the parameters to those that the sizes of an evaluation rest on.
 use lib.IntN.{pos}
-use Rattle.exact.specs.Fraction.{nat, negq}
-use Rattle.exact.specs.Size.{Range}
 use Rattle.exact.proofs.AbsoluteValue.{le-of-abs, neg-le-of-abs}
 use Rattle.exact.proofs.Computing.{computing}
 use Rattle.exact.proofs.FractionLaws.{lit-≤}

@@ -1,11 +1,8 @@
 -- Every device that a list of calls can leave is within the bounds, and so is the one on which the last accepted evaluation was made.
-use Prim.Native.Nat.{ℕ}
 use mathlib.Core.Path.{_≡_, refl, sym, subst}
-use mathlib.Core.List.{List, [], _∷_}
-use lib.Ieee.{Float}
+use mathlib.Core.List.{List}
 use Rattle.device.specs.declared.Mosfet1.{Mosfet1}
 use Rattle.bias.specs.declared.Kept.{Kept}
-use Rattle.bias.specs.declared.Answer.{Answer}
 use Rattle.mosfet1.specs.Steps.{evaluatedOf, evaluatedFromOf, committedOf}
 use Rattle.mosfet1.specs.declared.steps.Evaluated.{Evaluated}
 use Rattle.parameter_sizes.specs.ParameterSizes.{CardSizes, GeometrySizes, ScaledSizes, DeviceSizes}
@@ -18,8 +15,8 @@ use Rattle.evaluation_sizes.proofs.Accepted.{eval-accepted, commit-accepted}
 use Rattle.evaluation_sizes.proofs.Evaluated.{eval-sizes}
 use Rattle.evaluation_sizes.proofs.Committed.{commit-sizes}
 use Rattle.evaluation_sizes.proofs.Fresh.{fresh-sizes}
-use Rattle.call_lists.specs.Calls.{Call, evaluation, run}
-use Rattle.call_lists.specs.F64.{Every, none, next, F64, IsF64, Fresh}
+use Rattle.call_lists.specs.Calls.{Call, run}
+use Rattle.call_lists.specs.F64.{Every, IsF64, Fresh}
 use Rattle.call_lists.specs.LastEvaluation.{EvaluationMade, made, lastEvaluation}
 use Rattle.call_lists.proofs.Outcomes.{geometry-done, scaling-done, binding-done}
 use Rattle.call_lists.proofs.Induction.{Keeps, list-keeps, last-evaluation-keeps}

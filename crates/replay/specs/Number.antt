@@ -1,9 +1,9 @@
 -- What a single word writes.
-use Prim.Native.Nat.{ℕ, zero, suc, _+_, _-_, _*_}
+use Prim.Native.Nat.{ℕ, _+_, _-_, _*_}
 use mathlib.Core.Bool.{Bool, cond}
 use mathlib.Core.List.{List, [], _∷_}
-use lib.Dec.{eqb, leb, ltb}
-use lib.Ieee.{Float, nan, binary64, ofBits}
+use lib.Dec.{eqb, ltb}
+use lib.Ieee.{nan, binary64, ofBits}
 use lib.ListN.{length, take, drop}
 use Rattle.device.specs.declared.Discretisation.{Discretisation}
 use Rattle.device.specs.declared.Discretisation.the-variants as Discretisation

@@ -3,7 +3,7 @@ ghost use mathlib.Core.Path.{_≡_};
 ghost use Prim.Native.Nat.{_+_, _*_, _^_, _≤_, _<_};
 ghost use lib.Dec.{ltb};
 ghost use lib.Ieee.{binary64, ofBits};
-ghost use Rattle.square_root.specs.SquareRoot.{nearestRoot, rootOf, sqrtOf};
+ghost use Rattle.square_root.specs.SquareRoot.{nearestRoot, sqrtOf};
 use std::num::wrapping_sub_u64;
 use wide::mulhi;
 use wide::mullo;

@@ -2,7 +2,7 @@ use mathlib.Core.List.{List}
 use lib.Ieee.{Float}
 -- `adding::add_all`: what is left to add, added to the present list, is all added to the list at entry.
 use mathlib.Core.Path.{_≡_, refl, sym, ap, _∙_}
-use Prim.Native.Nat.{ℕ, _+_, _-_}
+use Prim.Native.Nat.{_+_, _-_}
 use native.Mathlib.Omega.{arith}
 use borrow.Author.Needs.{needs}
 use lib.ListN.{length, drop}

@@ -1,5 +1,5 @@
 -- `adding::add_sources`: the offsets, then five history currents in turn.
-use Rattle.adding.specs.Adding.{addSources, sourceContributions, branchHistory}
+use Rattle.adding.specs.Adding.{sourceContributions, branchHistory}
 use Rattle.adding.proofs.Adding.{sources-append}
 use Rattle.places.specs.Places.{terminalsAt}
 use borrow.Author.Needs.{needs}

@@ -1,6 +1,6 @@
 -- `card::from_model_params` meets its contract.
 -- Assumes nothing.
-use mathlib.Core.Path.{_≡_, _∙_, sym, ap}
+use mathlib.Core.Path.{_∙_, sym, ap}
 use lib.ListN.{length}
 use Rattle.device.specs.Refusals.{done}
 use Rattle.device.proofs.Branches.{tested}

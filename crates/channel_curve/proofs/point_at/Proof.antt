@@ -1,11 +1,10 @@
-use Prim.Native.Nat.{ℕ, _+_, _-_, _*_, _^_, _≤_, _<_}
-use mathlib.Core.Path.{_≡_, refl, sym, _∙_, ap}
-use native.Mathlib.Omega.{arith}
+use Prim.Native.Nat.{_-_}
+use mathlib.Core.Path.{_≡_, sym, _∙_, ap}
 use mathlib.Core.Bool.{false}
 use lib.Ieee.{Float}
 use Rattle.device.specs.declared.Mosfet1.{Mosfet1}
 use Rattle.mosfet1.specs.declared.steps.Conditions.{Conditions}
-use mathlib.Core.List.{List, [], _∷_}
+use mathlib.Core.List.{List}
 use Rattle.model.specs.Calls.{outcomeOfEvaluation, evalOf}
 use Rattle.model.specs.declared.calls.Evaluation.{Evaluation}
 use Rattle.channel_curve.specs.Reference.{the-device, the-conditions}
@@ -13,11 +12,6 @@ use Rattle.channel_curve.specs.Curve.{answered, pointAt}
 use borrow.Author.Needs.{needs}
 use Rattle.channel_curve.proofs.point_at.Statement.{statement}
 use Rattle.channel_curve.proofs.point_at.Tie as tie
-use Rattle.channel_curve.proofs.point_at.Reads as reads
-use Rattle.channel_curve.proofs.point_at.Lts as lts
-use Rattle.channel_curve.proofs.reference.conditions.Reads as conditions-reads
-use Rattle.channel_curve.proofs.reference.device.Reads as device-reads
-use Rattle.model.proofs.calls.eval.Reads as eval-reads
 
 -- what an evaluation of the reference device found is what the definition answers
 answer : {d : Mosfet1} {k : Conditions} {a q : Evaluation} (x : List Float) →

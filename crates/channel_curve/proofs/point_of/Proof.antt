@@ -1,7 +1,5 @@
-use Prim.Native.Nat.{ℕ, _+_, _-_, _*_, _^_, _≤_, _<_}
-use mathlib.Core.Path.{_≡_, refl, sym, _∙_, ap}
-use native.Mathlib.Omega.{arith}
-use lib.ListN.{length}
+use Prim.Native.Nat.{_-_}
+use mathlib.Core.Path.{_≡_, sym, _∙_}
 use borrow.Author.Tests.{eq-eqb, ne-eqb}
 use Rattle.hex.specs.Hex.{bitsAt}
 use Rattle.hex.specs.declared.read.Bits.the-variants.{Is, Not}
@@ -10,11 +8,6 @@ use lib.Ieee.{binary64, ofBits}
 use borrow.Author.Needs.{needs}
 use Rattle.channel_curve.proofs.point_of.Statement.{statement}
 use Rattle.channel_curve.proofs.point_of.Tie as tie
-use Rattle.channel_curve.proofs.point_of.Reads as reads
-use Rattle.channel_curve.proofs.point_of.Lts as lts
-use Rattle.channel_curve.proofs.point_at.Reads as point-at-reads
-use Rattle.hex.proofs.bits_at.Reads as bits-at-reads
-use Rattle.hex.proofs.float_of.Reads as float-of-reads
 
 returns : tie.Need-returns
 unfolding pointOf bothRead

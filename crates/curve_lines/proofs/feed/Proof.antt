@@ -1,4 +1,4 @@
-use mathlib.Core.Path.{_≡_, refl, sym, _∙_, ap}
+use mathlib.Core.Path.{_≡_}
 use mathlib.Core.Bool.{true, false}
 use lib.Dec.{eqb}
 use borrow.Author.Tests.{eq-eqb, ne-eqb}
@@ -7,10 +7,6 @@ use Rattle.curve_lines.specs.Pieces.{lineAfter, textAfter}
 use borrow.Author.Needs.{needs}
 use Rattle.curve_lines.proofs.feed.Statement.{statement}
 use Rattle.curve_lines.proofs.feed.Tie as tie
-use Rattle.curve_lines.proofs.feed.Reads as reads
-use Rattle.curve_lines.proofs.feed.Lts as lts
-use Rattle.curve_lines.proofs.finish.Reads as finish-reads
-use Rattle.curve_lines.proofs.longer.Reads as longer-reads
 
 returns : tie.Need-returns
 unfolding lineAfter textAfter endOf textAt

@@ -1,19 +1,16 @@
-use Prim.Native.Nat.{ℕ, _+_, _-_, _≤_, _<_}
-use mathlib.Core.Path.{_≡_, refl, sym, _∙_, ap}
-use mathlib.Core.List.{List, [], _∷_, _++_}
+use Prim.Native.Nat.{ℕ, _+_, _-_, _≤_}
+use mathlib.Core.Path.{_≡_, sym, _∙_, ap}
+use mathlib.Core.List.{[], _∷_, _++_}
 use native.Mathlib.Omega.{arith}
 use native.Mathlib.Numerals.{add-one}
 use lib.ListN.{length, drop, getD, drop-of-length-le}
 use lib.Seq.{drop-cons}
-use Rattle.hex.proofs.Joining.{Written, Left, begun, further, finished, left-is}
+use Rattle.hex.proofs.Joining.{Written, Left, further, finished, left-is}
 use Rattle.curve_lines.specs.declared.Line.{Line}
-use Rattle.curve_lines.specs.Pieces.{lineAfter, textAfter, lineOf, textOf}
+use Rattle.curve_lines.specs.Pieces.{textAfter, lineOf, textOf}
 use borrow.Author.Needs.{needs}
 use Rattle.curve_lines.proofs.feed_all.Statement.{statement}
 use Rattle.curve_lines.proofs.feed_all.Tie as tie
-use Rattle.curve_lines.proofs.feed_all.Reads as reads
-use Rattle.curve_lines.proofs.feed_all.Lts as lts
-use Rattle.curve_lines.proofs.feed.Reads as feed-reads
 
 abbrev Inv-loop : tie.InvT-loop
 Inv-loop s out₀ next₀ end₀ i₀ out next end i =

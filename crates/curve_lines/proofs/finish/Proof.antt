@@ -1,4 +1,4 @@
-use mathlib.Core.Path.{_≡_, refl, sym, _∙_, ap}
+use mathlib.Core.Path.{_≡_, _∙_, ap}
 use lib.ListN.{length}
 use Rattle.hex.specs.Text.{endOf, textAt}
 use Rattle.curve_text.specs.Answer.{answerText}
@@ -9,12 +9,6 @@ use Rattle.curve_lines.specs.Pieces.{newLine, kept}
 use borrow.Author.Needs.{needs}
 use Rattle.curve_lines.proofs.finish.Statement.{statement}
 use Rattle.curve_lines.proofs.finish.Tie as tie
-use Rattle.curve_lines.proofs.finish.Reads as reads
-use Rattle.curve_lines.proofs.finish.Lts as lts
-use Rattle.curve_lines.proofs.is_bad.Reads as is-bad-reads
-use Rattle.curve_lines.proofs.new_line.Reads as new-line-reads
-use Rattle.curve_lines.proofs.point_in.Reads as point-in-reads
-use Rattle.curve_text.proofs.put_answer.Reads as put-answer-reads
 
 slice-aggregate-point-in : tie.Need-slice-aggregate-point-in
 slice-aggregate-point-in c = search needs

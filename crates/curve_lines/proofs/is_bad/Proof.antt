@@ -1,10 +1,8 @@
-use mathlib.Core.Path.{_≡_, refl, sym, _∙_, ap}
+use mathlib.Core.Path.{sym, ap}
 use Rattle.curve_lines.specs.Printed.{isBad}
 use borrow.Author.Needs.{needs}
 use Rattle.curve_lines.proofs.is_bad.Statement.{statement}
 use Rattle.curve_lines.proofs.is_bad.Tie as tie
-use Rattle.curve_lines.proofs.is_bad.Reads as reads
-use Rattle.curve_lines.proofs.is_bad.Lts as lts
 
 enum-told : tie.Need-enum-told
 enum-told c = search needs

@@ -1,4 +1,4 @@
-use mathlib.Core.Path.{_≡_, refl, sym, _∙_, ap}
+use mathlib.Core.Path.{_≡_, _∙_, ap}
 use mathlib.Core.Bool.{true, false}
 use lib.Dec.{eqb}
 use lib.ListN.{length}
@@ -11,10 +11,6 @@ use Rattle.curve_lines.specs.Pieces.{kept, lastText}
 use borrow.Author.Needs.{needs}
 use Rattle.curve_lines.proofs.last.Statement.{statement}
 use Rattle.curve_lines.proofs.last.Tie as tie
-use Rattle.curve_lines.proofs.last.Reads as reads
-use Rattle.curve_lines.proofs.last.Lts as lts
-use Rattle.curve_lines.proofs.point_in.Reads as point-in-reads
-use Rattle.curve_text.proofs.put_answer.Reads as put-answer-reads
 
 returns : tie.Need-returns
 unfolding lastText endOf textAt

@@ -1,12 +1,9 @@
-use mathlib.Core.Path.{_≡_, refl, sym, _∙_, ap}
 use native.Mathlib.Omega.{arith}
 use borrow.Author.Tests.{lt-ltb, le-ltb}
 use Rattle.curve_lines.specs.Pieces.{longerLine}
 use borrow.Author.Needs.{needs}
 use Rattle.curve_lines.proofs.longer.Statement.{statement}
 use Rattle.curve_lines.proofs.longer.Tie as tie
-use Rattle.curve_lines.proofs.longer.Reads as reads
-use Rattle.curve_lines.proofs.longer.Lts as lts
 
 element-write-next : tie.Need-element-write-next
 element-write-next c = search needs

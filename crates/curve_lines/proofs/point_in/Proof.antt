@@ -1,5 +1,5 @@
 use Prim.Native.Nat.{ℕ, _-_}
-use mathlib.Core.Path.{_≡_, refl, sym, _∙_, ap}
+use mathlib.Core.Path.{_≡_, sym, _∙_, ap}
 use native.Mathlib.Omega.{arith}
 use lib.ListN.{take}
 use lib.Seq.{take-all}
@@ -7,9 +7,6 @@ use Rattle.channel_curve.specs.Curve.{pointOf}
 use borrow.Author.Needs.{needs}
 use Rattle.curve_lines.proofs.point_in.Statement.{statement}
 use Rattle.curve_lines.proofs.point_in.Tie as tie
-use Rattle.curve_lines.proofs.point_in.Reads as reads
-use Rattle.curve_lines.proofs.point_in.Lts as lts
-use Rattle.channel_curve.proofs.point_of.Reads as point-of-reads
 
 sub-point-of : tie.Need-sub-point-of
 sub-point-of c = search needs

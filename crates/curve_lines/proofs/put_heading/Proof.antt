@@ -2,9 +2,6 @@ use Rattle.curve_lines.specs.Printed.{heading}
 use borrow.Author.Needs.{needs}
 use Rattle.curve_lines.proofs.put_heading.Statement.{statement}
 use Rattle.curve_lines.proofs.put_heading.Tie as tie
-use Rattle.curve_lines.proofs.put_heading.Reads as reads
-use Rattle.curve_lines.proofs.put_heading.Lts as lts
-use Rattle.hex.proofs.put_text.Reads as put-text-reads
 
 slice-aggregate-put-text : tie.Need-slice-aggregate-put-text
 slice-aggregate-put-text c = search needs

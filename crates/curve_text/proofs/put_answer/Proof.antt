@@ -1,6 +1,5 @@
-use Prim.Native.Nat.{ℕ, _+_, _-_, _*_, _^_, _≤_, _<_}
-use mathlib.Core.Path.{_≡_, refl, sym, _∙_, ap}
-use native.Mathlib.Omega.{arith}
+use Prim.Native.Nat.{_-_}
+use mathlib.Core.Path.{_≡_, sym, _∙_, ap}
 use lib.ListN.{length}
 use Rattle.hex.specs.Text.{endOf, textAt}
 use Rattle.curve_text.specs.declared.Point.{Point}
@@ -9,10 +8,6 @@ use Rattle.curve_text.specs.Answer.{answerText}
 use borrow.Author.Needs.{needs}
 use Rattle.curve_text.proofs.put_answer.Statement.{statement}
 use Rattle.curve_text.proofs.put_answer.Tie as tie
-use Rattle.curve_text.proofs.put_answer.Reads as reads
-use Rattle.curve_text.proofs.put_answer.Lts as lts
-use Rattle.curve_text.proofs.put_point.Reads as put-point-reads
-use Rattle.hex.proofs.put_text.Reads as put-text-reads
 
 enum-known-p : tie.Need-enum-known-p
 enum-known-p c = search needs

@@ -1,17 +1,10 @@
-use Prim.Native.Nat.{ℕ, _+_, _-_, _*_, _^_, _≤_, _<_}
-use mathlib.Core.Path.{_≡_, refl, sym, _∙_, ap}
-use native.Mathlib.Omega.{arith}
-use lib.ListN.{length}
+use Prim.Native.Nat.{_-_}
 use Rattle.hex.specs.Text.{numberText}
 use Rattle.curve_text.specs.Answer.{column}
 use Rattle.hex.proofs.Joining.{Written, joined}
 use borrow.Author.Needs.{needs}
 use Rattle.curve_text.proofs.put_column.Statement.{statement}
 use Rattle.curve_text.proofs.put_column.Tie as tie
-use Rattle.curve_text.proofs.put_column.Reads as reads
-use Rattle.curve_text.proofs.put_column.Lts as lts
-use Rattle.hex.proofs.put_number.Reads as put-number-reads
-use Rattle.hex.proofs.put_text.Reads as put-text-reads
 
 put-number-requires : tie.Need-put-number-requires
 put-number-requires c κs = search needs

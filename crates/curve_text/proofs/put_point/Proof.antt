@@ -1,16 +1,10 @@
-use Prim.Native.Nat.{ℕ, _+_, _-_, _*_, _^_, _≤_, _<_}
-use mathlib.Core.Path.{_≡_, refl, sym, _∙_, ap}
-use native.Mathlib.Omega.{arith}
-use lib.ListN.{length}
+use Prim.Native.Nat.{_-_}
 use mathlib.Core.List.{[], _∷_}
 use Rattle.curve_text.specs.Answer.{column, pointText}
 use Rattle.hex.proofs.Joining.{Written, joined}
 use borrow.Author.Needs.{needs}
 use Rattle.curve_text.proofs.put_point.Statement.{statement}
 use Rattle.curve_text.proofs.put_point.Tie as tie
-use Rattle.curve_text.proofs.put_point.Reads as reads
-use Rattle.curve_text.proofs.put_point.Lts as lts
-use Rattle.curve_text.proofs.put_column.Reads as put-column-reads
 
 slice-aggregate-put-column : tie.Need-slice-aggregate-put-column
 slice-aggregate-put-column c = search needs

@@ -1,7 +1,7 @@
 -- `entries::test_keys` meets its contract: each answer follows from the tests on the way.
 -- Assumes nothing.
 use mathlib.Core.Path.{_≡_, _∙_, ap, subst}
-use mathlib.Core.Bool.{Bool, false}
+use mathlib.Core.Bool.{false}
 use mathlib.Core.List.{List}
 use Prim.Native.Nat.{ℕ, _<_, _≤_}
 use borrow.Author.Needs.{needs}
@@ -9,7 +9,7 @@ use borrow.Author.Tests.{lt-ltb, le-ltb}
 use lib.Dec.{ltb}
 use Rattle.device.specs.Refusals.{done}
 use Rattle.device.proofs.Branches.{cond-yes, cond-no, tested}
-use Rattle.entries.specs.Entries.{Entry, entriesOf, badPairs, anyBeyondAscii, unknownCount, anyOutside, anyTnomOutside, keysOf}
+use Rattle.entries.specs.Entries.{Entry, entriesOf, badPairs, anyBeyondAscii, unknownCount, keysOf}
 use Rattle.entries.specs.declared.Scan.{Scan}
 use Rattle.entries.proofs.test_keys.Statement.{statement}
 use Rattle.entries.proofs.test_keys.Tie as tie

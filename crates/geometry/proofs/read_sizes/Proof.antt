@@ -1,14 +1,12 @@
 -- `geometry::read_sizes` meets its contract.
 -- Assumes nothing.
 use mathlib.Core.Path.{_≡_, refl, _∙_, sym, ap}
-use mathlib.Core.List.{List}
-use Prim.Native.Nat.{ℕ, _+_, _-_, _≤_}
+use Prim.Native.Nat.{_+_, _-_, _≤_}
 use native.Mathlib.Omega.{arith}
 use borrow.Author.Needs.{needs}
 use lib.Ieee.{nan}
 use lib.ListN.{length, getD}
 use Rattle.keys.specs.declared.Meaning.{Meaning}
-use Rattle.entries.specs.Entries.{Entry}
 use Rattle.entries.proofs.Entries.{Paired, paired, rest, entry-end}
 use Rattle.geometry.specs.Geometry.{assigned, sizesOf}
 use Rattle.geometry.specs.declared.Sizes.{Sizes}

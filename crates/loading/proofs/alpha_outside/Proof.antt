@@ -3,10 +3,6 @@ use Rattle.loading.specs.Loading.{alphaOutside}
 use borrow.Author.Needs.{needs}
 use Rattle.loading.proofs.alpha_outside.Statement.{statement}
 use Rattle.loading.proofs.alpha_outside.Tie as tie
-use Rattle.loading.proofs.alpha_outside.Reads as reads
-use Rattle.loading.proofs.alpha_outside.Lts as lts
-use Rattle.reactive.proofs.has_step.Reads as has-step-reads
-use Rattle.loading.proofs.alpha_inside.Reads as alpha-inside-reads
 
 -- src/lib.rt:117:36
 enum-told : tie.Need-enum-told

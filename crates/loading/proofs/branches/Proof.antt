@@ -3,10 +3,6 @@ use Rattle.loading.specs.Loading.{branchesOf}
 use borrow.Author.Needs.{needs}
 use Rattle.loading.proofs.branches.Statement.{statement}
 use Rattle.loading.proofs.branches.Tie as tie
-use Rattle.loading.proofs.branches.Reads as reads
-use Rattle.loading.proofs.branches.Lts as lts
-use Rattle.loading.proofs.no_branches.Reads as no-branches-reads
-use Rattle.stamps.proofs.charge_branches.Reads as charge-branches-reads
 
 -- src/lib.rt:155:36
 enum-told : tie.Need-enum-told

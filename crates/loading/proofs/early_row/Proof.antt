@@ -4,12 +4,6 @@ use Rattle.loading.specs.Loading.{earlyRow}
 use borrow.Author.Needs.{needs}
 use Rattle.loading.proofs.early_row.Statement.{statement}
 use Rattle.loading.proofs.early_row.Tie as tie
-use Rattle.loading.proofs.early_row.Reads as reads
-use Rattle.loading.proofs.early_row.Lts as lts
-use Rattle.loading.proofs.alpha_outside.Reads as alpha-outside-reads
-use Rattle.loading.proofs.unevaluated.Reads as unevaluated-reads
-use Rattle.loading.proofs.nodes_outside.Reads as nodes-outside-reads
-use Rattle.pattern.proofs.well_formed.Reads as well-formed-reads
 
 -- src/lib.rt:174:8
 nodes-outside-requires : tie.Need-nodes-outside-requires

@@ -3,8 +3,6 @@ use mathlib.Core.Path.{refl}
 use Rattle.loading.specs.Loading.{noBranches, noBranch}
 use Rattle.loading.proofs.no_branches.Statement.{statement}
 use Rattle.loading.proofs.no_branches.Tie as tie
-use Rattle.loading.proofs.no_branches.Reads as reads
-use Rattle.loading.proofs.no_branches.Lts as lts
 
 -- src/lib.rt:131:1
 returns : tie.Need-returns

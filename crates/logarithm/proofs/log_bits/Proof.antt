@@ -1,6 +1,5 @@
 -- `logarithm::log_bits` meets its contract. Assumes nothing.
 use mathlib.Core.Path.{refl, sym, _∙_}
-use borrow.Author.Needs.{needs}
 use borrow.Author.Tests.{lt-ltb, le-ltb}
 use Rattle.exponential.proofs.Ranges.{cond-yes, cond-else}
 use Rattle.logarithm.proofs.log_bits.Statement.{statement}

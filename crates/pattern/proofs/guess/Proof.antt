@@ -2,7 +2,6 @@
 use mathlib.Core.Path.{_≡_, sym, _∙_}
 use native.Mathlib.Omega.{arith}
 use borrow.Author.Needs.{needs}
-use denote.Ref.{now}
 use Rattle.pattern.specs.Pattern.{distance}
 use Rattle.pattern.proofs.Spans.{distance-is, guess-outside, guess-here, guess-elsewhere}
 use Rattle.pattern.proofs.guess.Statement.{statement}

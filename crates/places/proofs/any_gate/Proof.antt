@@ -2,8 +2,6 @@
 use Rattle.places.specs.Places.{anyGate}
 use Rattle.places.proofs.any_gate.Statement.{statement}
 use Rattle.places.proofs.any_gate.Tie as tie
-use Rattle.places.proofs.any_gate.Reads as reads
-use Rattle.places.proofs.any_gate.Lts as lts
 
 -- src/lib.rt:292:9
 returns : tie.Need-returns

@@ -4,9 +4,6 @@ use borrow.Author.Tests.{not-true, not-false}
 use borrow.Author.Needs.{needs}
 use Rattle.places.proofs.branches_there.Statement.{statement}
 use Rattle.places.proofs.branches_there.Tie as tie
-use Rattle.places.proofs.branches_there.Reads as reads
-use Rattle.places.proofs.branches_there.Lts as lts
-use Rattle.places.proofs.four_there.Reads as four-there-reads
 
 -- src/lib.rt:270:45
 element-copy-out-four-there : tie.Need-element-copy-out-four-there

@@ -3,9 +3,6 @@ use Rattle.places.specs.Places.{fourThere}
 use borrow.Author.Needs.{needs}
 use Rattle.places.proofs.four_there.Statement.{statement}
 use Rattle.places.proofs.four_there.Tie as tie
-use Rattle.places.proofs.four_there.Reads as reads
-use Rattle.places.proofs.four_there.Lts as lts
-use Rattle.places.proofs.none_missing.Reads as none-missing-reads
 
 -- src/lib.rt:194:22
 slice-aggregate-none-missing : tie.Need-slice-aggregate-none-missing

@@ -1,8 +1,7 @@
 -- `places::gate_places`: five lookups, or none.
-use mathlib.Core.Path.{_≡_, refl, sym, ap, _∙_}
-use Prim.Native.Nat.{ℕ, _≤_}
+use mathlib.Core.Path.{_≡_, _∙_}
+use Prim.Native.Nat.{ℕ}
 use native.Mathlib.Omega.{arith}
-use lib.ListN.{length}
 use denote.Ref.{now}
 use Rattle.pattern.specs.Pattern.{spanOf}
 use Rattle.pattern.specs.declared.RowSpan.{RowSpan}

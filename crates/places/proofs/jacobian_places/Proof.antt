@@ -1,8 +1,7 @@
 -- `places::jacobian_places`: each different cell is looked up once, and stands where `jac_pairs` has it.
-use mathlib.Core.Path.{_≡_, refl, sym, ap, _∙_}
-use Prim.Native.Nat.{ℕ, _≤_}
+use mathlib.Core.Path.{_≡_, refl, _∙_}
+use Prim.Native.Nat.{ℕ}
 use native.Mathlib.Omega.{arith}
-use lib.ListN.{length}
 use denote.Ref.{now}
 use Rattle.pattern.specs.Pattern.{spanOf}
 use Rattle.pattern.specs.declared.RowSpan.{RowSpan}

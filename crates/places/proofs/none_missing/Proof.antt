@@ -1,16 +1,13 @@
 -- `places::none_missing`: none of the places that are left is missing exactly if none of all is.
-use mathlib.Core.Path.{_≡_, refl, sym, ap, _∙_}
-use Prim.Native.Nat.{ℕ, _+_, _-_}
+use mathlib.Core.Path.{_≡_, refl, sym, _∙_}
+use Prim.Native.Nat.{_-_}
 use native.Mathlib.Omega.{arith}
-use borrow.Author.Needs.{needs}
 use lib.ListN.{length, drop}
 use denote.Ref.{now}
 use Rattle.places.specs.Places.{noneMissing}
 use Rattle.places.proofs.Missing.{missing-here, missing-later, missing-end}
 use Rattle.places.proofs.none_missing.Statement.{statement}
 use Rattle.places.proofs.none_missing.Tie as tie
-use Rattle.places.proofs.none_missing.Reads as reads
-use Rattle.places.proofs.none_missing.Lts as lts
 
 abbrev Inv-loop : tie.InvT-loop
 Inv-loop places k₀ k = noneMissing places ≡ noneMissing (drop k places)

@@ -1,5 +1,5 @@
 -- `places::searched`: ground's place is skipped, and the search finds the others.
-use mathlib.Core.Path.{_≡_, sym, _∙_}
+use mathlib.Core.Path.{sym, _∙_}
 use native.Mathlib.Omega.{arith}
 use denote.Ref.{now}
 use Rattle.pattern.specs.declared.Found.the-variants.{At as FoundAt, Absent}

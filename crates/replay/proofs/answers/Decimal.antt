@@ -1,12 +1,12 @@
 -- Decimal digits, from the lowest up.
-use Prim.Native.Nat.{ℕ, zero, suc, _+_, _-_, _/_, _%_, _≤_, _<_}
+use Prim.Native.Nat.{ℕ, zero, suc, _+_, _-_, _/_, _%_, _<_}
 use mathlib.Core.Path.{_≡_, refl, sym, _∙_, ap, ap₂}
 use mathlib.Core.Bool.{Bool, cond}
-use mathlib.Core.List.{List, [], _∷_}
+use mathlib.Core.List.{List, _∷_}
 use native.Mathlib.Numerals.{add-one}
 use native.Mathlib.Omega.{arith}
-use lib.ListN.{length, set, drop, getD, length-set}
-use lib.Seq.{drop-cons, getD-set-same, drop-set-lt, take-all, lt-length-set}
+use lib.ListN.{length, set, drop}
+use lib.Seq.{drop-cons, getD-set-same, drop-set-lt, lt-length-set}
 use borrow.Author.Tests.{eq-eqb, ne-eqb}
 use Rattle.replay.specs.Text.{decimal}
 

@@ -1,16 +1,10 @@
 -- `replay::feed` ends: the bytes that are left fall. The line's length stays.
-use Prim.Native.Nat.{ℕ, _+_, _-_, _*_, _≤_, _<_}
+use Prim.Native.Nat.{_-_, _≤_}
 use mathlib.Core.Path.{_≡_}
-use native.Mathlib.Omega.{arith}
 use lib.ListN.{length}
 use borrow.Author.Needs.{needs}
 use Rattle.replay.proofs.feed.Statement.{statement}
 use Rattle.replay.proofs.feed.Tie as tie
-use Rattle.replay.proofs.feed.Reads as reads
-use Rattle.replay.proofs.feed.Lts as lts
-use Rattle.replay.proofs.add.Reads as add-reads
-use Rattle.replay.proofs.end_line.Reads as end-line-reads
-use Rattle.replay.proofs.script.word.until.Reads as until-reads
 
 abbrev Inv-loop : tie.InvT-loop
 Inv-loop line₀ s next₀ at₀ line next at = (at ≤ length s) × (length line ≡ length line₀)

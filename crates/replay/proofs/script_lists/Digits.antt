@@ -1,14 +1,13 @@
 -- Bytes of two digits each.
 use Prim.Native.Nat.{ℕ, _+_, _-_, _*_, _/_, _%_, _≤_, _<_}
-use mathlib.Core.Path.{_≡_, refl, sym, _∙_, ap}
+use mathlib.Core.Path.{_≡_, _∙_}
 use mathlib.Core.Bool.{true, false}
 use mathlib.Core.List.{List}
-use native.Mathlib.Omega.{arith}
 use lib.ListN.{length}
 use borrow.Author.Tests.{eq-eqb, ne-eqb, lt-ltb, le-ltb}
 use Rattle.replay.specs.declared.script_lists.Count.{Count}
 use Rattle.replay.specs.declared.script_lists.Count.the-variants as Count
-use Rattle.replay.specs.Lists.{Item, is, none, twos, counted, filled, isEmptyList, byteFrom, byteIn, fitBytes, byteCountOf, bytesFilledBy}
+use Rattle.replay.specs.Lists.{is, none, twos, isEmptyList, byteFrom, byteIn, fitBytes, byteCountOf, bytesFilledBy}
 use Rattle.replay.proofs.script_lists.Filling.{Over}
 
 -- what `bytes` promises of a count and a slice

@@ -1,19 +1,7 @@
-use Prim.Native.Nat.{ℕ, _+_, _-_, _*_, _^_, _≤_, _<_}
-use mathlib.Core.Path.{_≡_, refl, sym, _∙_, ap}
-use native.Mathlib.Omega.{arith}
-use lib.ListN.{length}
+use Prim.Native.Nat.{_-_}
 use borrow.Author.Needs.{needs}
 use Rattle.channel_curve.proofs.reference.device.Statement.{statement}
 use Rattle.channel_curve.proofs.reference.device.Tie as tie
-use Rattle.channel_curve.proofs.reference.device.Reads as reads
-use Rattle.channel_curve.proofs.reference.device.Lts as lts
-use Rattle.channel_curve.proofs.reference.card.Reads as card-reads
-use Rattle.channel_curve.proofs.reference.charges.Reads as charges-reads
-use Rattle.channel_curve.proofs.reference.geometry.Reads as geometry-reads
-use Rattle.channel_curve.proofs.reference.history.Reads as history-reads
-use Rattle.channel_curve.proofs.reference.point.Reads as point-reads
-use Rattle.channel_curve.proofs.reference.scaled.Reads as scaled-reads
-use Rattle.channel_curve.proofs.reference.terminals.Reads as terminals-reads
 
 card-requires : tie.Need-card-requires
 card-requires c κs = search needs

@@ -1,11 +1,11 @@
 -- The loop's invariant: what the definition answers is what it answers of the digits that are left, after those that make n.
 use Prim.Native.Nat.{ℕ, _+_, _-_, _*_, _^_, _≤_, _<_}
-use mathlib.Core.Path.{_≡_, refl, sym, _∙_, ap}
+use mathlib.Core.Path.{_≡_, sym, _∙_, ap}
 use native.Mathlib.Nat.{add-zero}
 use native.Mathlib.Omega.{arith}
-use lib.ListN.{length, drop, getD, length-drop}
+use lib.ListN.{length, drop, length-drop}
 use borrow.Author.Needs.{needs}
-use Rattle.hex.specs.Hex.{digitOf, digitsAfter, bitsAt}
+use Rattle.hex.specs.Hex.{digitsAfter, bitsAt}
 use Rattle.hex.proofs.Digits.{too-few, goes-on, stops, more, fits}
 use Rattle.hex.proofs.read.bits_at.Statement.{statement}
 use Rattle.hex.proofs.read.bits_at.Tie as tie

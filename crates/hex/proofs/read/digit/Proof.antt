@@ -1,5 +1,4 @@
 -- Each branch of the code is the branch of the definition that its tests name.
-use mathlib.Core.Path.{_≡_, refl}
 use native.Mathlib.Omega.{arith}
 use borrow.Author.Needs.{needs}
 use borrow.Author.Tests.{lt-ltb, le-ltb}

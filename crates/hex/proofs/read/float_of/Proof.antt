@@ -6,8 +6,6 @@ use borrow.Author.Needs.{needs}
 use Rattle.hex.proofs.Patterns.{nan-pattern, no-digits, other-field}
 use Rattle.hex.proofs.read.float_of.Statement.{statement}
 use Rattle.hex.proofs.read.float_of.Tie as tie
-use Rattle.hex.proofs.read.float_of.Reads as reads
-use Rattle.hex.proofs.read.float_of.Lts as lts
 
 returns : tie.Need-returns
 unfolding div ofBits

@@ -1,13 +1,9 @@
-use Prim.Native.Nat.{ℕ, _+_, _-_, _*_, _^_, _≤_, _<_}
-use mathlib.Core.Path.{_≡_, refl, sym, _∙_, ap}
-use native.Mathlib.Omega.{arith}
+use Prim.Native.Nat.{_-_}
 use borrow.Author.Tests.{lt-ltb, le-ltb}
 use Rattle.hex.specs.Text.{byteOf}
 use borrow.Author.Needs.{needs}
 use Rattle.hex.proofs.write.digit_byte.Statement.{statement}
 use Rattle.hex.proofs.write.digit_byte.Tie as tie
-use Rattle.hex.proofs.write.digit_byte.Reads as reads
-use Rattle.hex.proofs.write.digit_byte.Lts as lts
 
 -- src/write.rt:37:17
 add-result : tie.Need-add-result

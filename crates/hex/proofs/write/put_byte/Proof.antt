@@ -1,6 +1,5 @@
-use Prim.Native.Nat.{ℕ, _+_, _-_, _*_, _^_, _≤_, _<_}
-use mathlib.Core.Path.{_≡_, refl, sym, _∙_, ap}
-use native.Mathlib.Omega.{arith}
+use Prim.Native.Nat.{_+_, _-_}
+use mathlib.Core.Path.{_≡_, refl, sym}
 use borrow.Author.Tests.{lt-ltb, le-ltb}
 use Rattle.hex.specs.Text.{after}
 use lib.ListN.{length}
@@ -8,8 +7,6 @@ use lib.Seq.{set-out}
 use borrow.Author.Needs.{needs}
 use Rattle.hex.proofs.write.put_byte.Statement.{statement}
 use Rattle.hex.proofs.write.put_byte.Tie as tie
-use Rattle.hex.proofs.write.put_byte.Reads as reads
-use Rattle.hex.proofs.write.put_byte.Lts as lts
 
 -- src/write.rt:12:9
 slice-write-out : tie.Need-slice-write-out

@@ -1,16 +1,13 @@
-use Prim.Native.Nat.{ℕ, _+_, _-_, _*_, _^_, _≤_, _<_}
-use mathlib.Core.Path.{_≡_, refl, sym, _∙_, ap, ap₂}
+use Prim.Native.Nat.{ℕ, _+_, _-_, _≤_}
+use mathlib.Core.Path.{_≡_, sym, _∙_, ap, ap₂}
 use mathlib.Core.List.{List, []}
 use native.Mathlib.Omega.{arith}
-use lib.ListN.{length, drop, set, length-set}
+use lib.ListN.{length, drop, length-set}
 use Rattle.hex.specs.Text.{after, endOf, textAt}
 use Rattle.hex.proofs.Writing.{end-step, text-step, drop-all}
 use borrow.Author.Needs.{needs}
 use Rattle.hex.proofs.write.put_text.Statement.{statement}
 use Rattle.hex.proofs.write.put_text.Tie as tie
-use Rattle.hex.proofs.write.put_text.Reads as reads
-use Rattle.hex.proofs.write.put_text.Lts as lts
-use Rattle.hex.proofs.write.put_byte.Reads as put-byte-reads
 
 abbrev Inv-loop : tie.InvT-loop
 Inv-loop out₀ at text n₀ i₀ out n i = (i ≤ length text) × (length out ≡ length out₀) × (endOf (length out₀) at text ≡ endOf (length out₀) n (drop i text)) × (textAt out₀ at text ≡ textAt out n (drop i text))

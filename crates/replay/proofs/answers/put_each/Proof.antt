@@ -1,9 +1,6 @@
-use Prim.Native.Nat.{ℕ, _+_, _-_, _≤_, _<_}
-use mathlib.Core.Path.{_≡_, refl, sym, _∙_, ap}
-use mathlib.Core.List.{List, [], _∷_, _++_}
+use Prim.Native.Nat.{_-_, _≤_}
 use native.Mathlib.Omega.{arith}
-use lib.ListN.{length, take, drop, getD}
-use Rattle.hex.specs.Text.{endOf, textAt, numberText}
+use lib.ListN.{length, drop, getD}
 use lib.Ieee.{nan}
 use Rattle.replay.specs.Text.{nextText, eachText}
 use Rattle.hex.proofs.Joining.{Written, Left, begun, further, finished, left-is}
@@ -11,9 +8,6 @@ use Rattle.replay.proofs.answers.Lists.{each-first, each-end}
 use borrow.Author.Needs.{needs}
 use Rattle.replay.proofs.answers.put_each.Statement.{statement}
 use Rattle.replay.proofs.answers.put_each.Tie as tie
-use Rattle.replay.proofs.answers.put_each.Reads as reads
-use Rattle.replay.proofs.answers.put_each.Lts as lts
-use Rattle.replay.proofs.answers.put_next.Reads as put-next-reads
 
 abbrev Inv-loop : tie.InvT-loop
 Inv-loop out₀ at xs n₀ i₀ out n i = (i ≤ length xs) × Left out₀ at (eachText xs) out n (eachText (drop i xs))

@@ -1,20 +1,15 @@
-use Prim.Native.Nat.{ℕ, _+_, _-_, _≤_, _<_}
-use mathlib.Core.Path.{_≡_, refl, sym, _∙_, ap}
-use mathlib.Core.List.{List, [], _∷_, _++_}
-use native.Mathlib.Omega.{arith}
-use lib.ListN.{length, take, drop, getD}
+use Prim.Native.Nat.{_-_}
+use mathlib.Core.Path.{_≡_, sym, _∙_, ap}
+use mathlib.Core.List.{[], _∷_}
+use lib.ListN.{length}
 use Rattle.hex.specs.Text.{endOf, textAt, numberText}
 use Rattle.device.specs.declared.Given.{Given}
 use Rattle.device.specs.declared.Given.the-variants.{Absent, Value}
 use Rattle.replay.specs.Text.{givenText}
-use Rattle.hex.proofs.Joining.{Written, joined}
+use Rattle.hex.proofs.Joining.{Written}
 use borrow.Author.Needs.{needs}
 use Rattle.replay.proofs.answers.put_given.Statement.{statement}
 use Rattle.replay.proofs.answers.put_given.Tie as tie
-use Rattle.replay.proofs.answers.put_given.Reads as reads
-use Rattle.replay.proofs.answers.put_given.Lts as lts
-use Rattle.hex.proofs.put_number.Reads as put-number-reads
-use Rattle.hex.proofs.put_text.Reads as put-text-reads
 
 enum-told : tie.Need-enum-told
 enum-told c = search needs

@@ -1,9 +1,9 @@
-use Prim.Native.Nat.{ℕ, _+_, _-_, _≤_, _<_}
-use mathlib.Core.Path.{_≡_, refl, sym, _∙_, ap}
-use mathlib.Core.List.{List, [], _∷_, _++_}
+use Prim.Native.Nat.{ℕ, _-_, _≤_}
+use mathlib.Core.Path.{_≡_, sym, _∙_, ap}
+use mathlib.Core.List.{List, [], _∷_}
 use native.Mathlib.Omega.{arith}
-use lib.ListN.{length, take, drop, getD}
-use Rattle.hex.specs.Text.{endOf, textAt, numberText}
+use lib.ListN.{length, drop, getD}
+use Rattle.hex.specs.Text.{endOf, textAt}
 use lib.Ieee.{nan}
 use Rattle.replay.specs.Text.{nextText, itemText, itemsText, listText}
 use Rattle.hex.proofs.Joining.{Written, joined, length-text, Left, begun, further, finished, left-is}
@@ -11,11 +11,6 @@ use Rattle.replay.proofs.answers.Lists.{items-first, items-end, list-em
 use borrow.Author.Needs.{needs}
 use Rattle.replay.proofs.answers.put_list.Statement.{statement}
 use Rattle.replay.proofs.answers.put_list.Tie as tie
-use Rattle.replay.proofs.answers.put_list.Reads as reads
-use Rattle.replay.proofs.answers.put_list.Lts as lts
-use Rattle.replay.proofs.answers.put_item.Reads as put-item-reads
-use Rattle.replay.proofs.answers.put_next.Reads as put-next-reads
-use Rattle.hex.proofs.put_text.Reads as put-text-reads
 
 abbrev Inv-loop : tie.InvT-loop
 Inv-loop out₀ at xs n₀ i₀ out n i = (1 ≤ i) × (i ≤ length xs) × Left out₀ n₀ (itemsText (drop 1 xs)) out n (itemsText (drop i xs))

@@ -1,8 +1,7 @@
-use Prim.Native.Nat.{ℕ, _+_, _-_, _≤_, _<_}
-use mathlib.Core.Path.{_≡_, refl, sym, _∙_, ap}
-use mathlib.Core.List.{List, [], _∷_, _++_}
-use native.Mathlib.Omega.{arith}
-use lib.ListN.{length, take, drop, getD}
+use Prim.Native.Nat.{_-_}
+use mathlib.Core.Path.{_≡_, sym, _∙_, ap}
+use mathlib.Core.List.{[], _∷_}
+use lib.ListN.{length}
 use Rattle.hex.specs.Text.{endOf, textAt, numberText}
 use Rattle.device.specs.declared.Discretisation.{Discretisation}
 use Rattle.device.specs.declared.Discretisation.the-variants.{None, Euler, Trapezoid, Gear}
@@ -11,10 +10,6 @@ use Rattle.hex.proofs.Joining.{Written, joined}
 use borrow.Author.Needs.{needs}
 use Rattle.replay.proofs.answers.put_method.Statement.{statement}
 use Rattle.replay.proofs.answers.put_method.Tie as tie
-use Rattle.replay.proofs.answers.put_method.Reads as reads
-use Rattle.replay.proofs.answers.put_method.Lts as lts
-use Rattle.hex.proofs.put_number.Reads as put-number-reads
-use Rattle.hex.proofs.put_text.Reads as put-text-reads
 
 enum-told : tie.Need-enum-told
 enum-told c = search needs

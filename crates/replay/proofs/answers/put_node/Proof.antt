@@ -1,20 +1,15 @@
-use Prim.Native.Nat.{ℕ, _+_, _-_, _≤_, _<_}
-use mathlib.Core.Path.{_≡_, refl, sym, _∙_, ap}
-use mathlib.Core.List.{List, [], _∷_, _++_}
-use native.Mathlib.Omega.{arith}
-use lib.ListN.{length, take, drop, getD}
-use Rattle.hex.specs.Text.{endOf, textAt, numberText}
+use Prim.Native.Nat.{_-_}
+use mathlib.Core.Path.{_≡_, sym, _∙_, ap}
+use mathlib.Core.List.{[], _∷_}
+use lib.ListN.{length}
+use Rattle.hex.specs.Text.{endOf, textAt}
 use Rattle.device.specs.declared.NodeId.{NodeId}
 use Rattle.device.specs.declared.NodeId.the-variants.{Ground, At}
 use Rattle.replay.specs.Text.{nodeText, wholeText}
-use Rattle.hex.proofs.Joining.{Written, joined}
+use Rattle.hex.proofs.Joining.{Written}
 use borrow.Author.Needs.{needs}
 use Rattle.replay.proofs.answers.put_node.Statement.{statement}
 use Rattle.replay.proofs.answers.put_node.Tie as tie
-use Rattle.replay.proofs.answers.put_node.Reads as reads
-use Rattle.replay.proofs.answers.put_node.Lts as lts
-use Rattle.replay.proofs.answers.put_whole.Reads as put-whole-reads
-use Rattle.hex.proofs.put_text.Reads as put-text-reads
 
 enum-told : tie.Need-enum-told
 enum-told c = search needs

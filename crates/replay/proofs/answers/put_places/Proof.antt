@@ -1,18 +1,12 @@
-use Prim.Native.Nat.{ℕ, _+_, _-_, _≤_, _<_}
-use mathlib.Core.Path.{_≡_, refl, sym, _∙_, ap}
-use mathlib.Core.List.{List, [], _∷_, _++_}
+use Prim.Native.Nat.{_-_, _≤_}
 use native.Mathlib.Omega.{arith}
 use lib.ListN.{length, take, drop, getD}
-use Rattle.hex.specs.Text.{endOf, textAt, numberText}
 use Rattle.replay.specs.Text.{nextWholeText, placesText}
 use Rattle.hex.proofs.Joining.{Written, Left, begun, further, finished, left-is}
 use Rattle.replay.proofs.answers.Lists.{places-first, places-end}
 use borrow.Author.Needs.{needs}
 use Rattle.replay.proofs.answers.put_places.Statement.{statement}
 use Rattle.replay.proofs.answers.put_places.Tie as tie
-use Rattle.replay.proofs.answers.put_places.Reads as reads
-use Rattle.replay.proofs.answers.put_places.Lts as lts
-use Rattle.replay.proofs.answers.put_next_whole.Reads as put-next-whole-reads
 
 abbrev Inv-loop : tie.InvT-loop
 Inv-loop out₀ at places count n₀ i₀ out n i = (i ≤ length places) × Left out₀ at (placesText (take count places)) out n (placesText (drop i (take count places)))

@@ -1,21 +1,17 @@
-use Prim.Native.Nat.{ℕ, _+_, _-_, _/_, _%_, _≤_, _<_}
+use Prim.Native.Nat.{ℕ, _+_, _-_, _/_, _%_, _≤_}
 use mathlib.Core.Path.{_≡_, refl, sym, _∙_, ap, ap₂}
-use mathlib.Core.List.{List, [], _∷_, _++_}
+use mathlib.Core.List.{List, [], _∷_}
 use native.Mathlib.Omega.{arith}
 use native.Mathlib.Nat.{le-of-eq}
 use lib.ListN.{length, take, drop, set, length-set, length-drop}
 use lib.Seq.{take-all}
-use Rattle.hex.specs.Text.{endOf, textAt, numberText}
+use Rattle.hex.specs.Text.{endOf, textAt}
 use Rattle.replay.specs.Text.{wholeText, decimal}
 use Rattle.hex.proofs.Joining.{length-text}
 use Rattle.replay.proofs.answers.Decimal.{stored-before, no-room, nothing-left, one-digit}
 use borrow.Author.Needs.{needs}
 use Rattle.replay.proofs.answers.put_whole.Statement.{statement}
 use Rattle.replay.proofs.answers.put_whole.Tie as tie
-use Rattle.replay.proofs.answers.put_whole.Reads as reads
-use Rattle.replay.proofs.answers.put_whole.Lts as lts
-use Rattle.replay.proofs.answers.digit_byte.Reads as digit-byte-reads
-use Rattle.hex.proofs.put_text.Reads as put-text-reads
 
 abbrev Inv-loop : tie.InvT-loop
 Inv-loop out₀ at x digits₀ first₀ rest₀ out digits first rest = (first ≤ 19) × (length digits ≡ 20) × (out ≡ out₀) × (wholeText x ≡ decimal first rest (drop first digits))

@@ -1,14 +1,9 @@
-use Prim.Native.Nat.{ℕ, _+_, _-_, _*_, _≤_, _<_}
+use Prim.Native.Nat.{_-_, _≤_}
 use mathlib.Core.Path.{_≡_}
-use native.Mathlib.Omega.{arith}
 use lib.ListN.{length}
 use borrow.Author.Needs.{needs}
 use Rattle.replay.proofs.device_text.put_floats.Statement.{statement}
 use Rattle.replay.proofs.device_text.put_floats.Tie as tie
-use Rattle.replay.proofs.device_text.put_floats.Reads as reads
-use Rattle.replay.proofs.device_text.put_floats.Lts as lts
-use Rattle.replay.proofs.device_text.put_float.Reads as put-float-reads
-use Rattle.replay.proofs.script.word.word.Reads as word-reads
 
 abbrev Inv-loop : tie.InvT-loop
 Inv-loop out₀ at names xs n₀ i₀ out n i = (i ≤ length xs) × (length out ≡ length out₀)

@@ -1,15 +1,9 @@
-use Prim.Native.Nat.{ℕ, _+_, _-_, _*_, _≤_, _<_}
+use Prim.Native.Nat.{_-_, _≤_}
 use mathlib.Core.Path.{_≡_}
-use native.Mathlib.Omega.{arith}
 use lib.ListN.{length}
 use borrow.Author.Needs.{needs}
 use Rattle.replay.proofs.function_calls.of_floats.Statement.{statement}
 use Rattle.replay.proofs.function_calls.of_floats.Tie as tie
-use Rattle.replay.proofs.function_calls.of_floats.Reads as reads
-use Rattle.replay.proofs.function_calls.of_floats.Lts as lts
-use Rattle.replay.proofs.function_calls.of_arguments.Reads as of-arguments-reads
-use Rattle.replay.proofs.script.number.read_number.Reads as read-number-reads
-use Rattle.replay.proofs.script.word.word.Reads as word-reads
 
 abbrev Inv-loop : tie.InvT-loop
 Inv-loop line count x₀ i₀ x i = (i ≤ count) × (length x ≡ 8)

@@ -1,18 +1,9 @@
-use Prim.Native.Nat.{ℕ, _+_, _-_, _*_, _≤_, _<_}
+use Prim.Native.Nat.{_-_, _≤_}
 use mathlib.Core.Path.{_≡_}
-use native.Mathlib.Omega.{arith}
 use lib.ListN.{length}
 use borrow.Author.Needs.{needs}
 use Rattle.replay.proofs.key_lists.key_bytes.Statement.{statement}
 use Rattle.replay.proofs.key_lists.key_bytes.Tie as tie
-use Rattle.replay.proofs.key_lists.key_bytes.Reads as reads
-use Rattle.replay.proofs.key_lists.key_bytes.Lts as lts
-use Rattle.hex.proofs.put_text.Reads as put-text-reads
-use Rattle.replay.proofs.key_lists.key_length.Reads as key-length-reads
-use Rattle.replay.proofs.script.word.skip_spaces.Reads as skip-spaces-reads
-use Rattle.replay.proofs.script.word.until.Reads as until-reads
-use Rattle.replay.proofs.script.word.word_start.Reads as word-start-reads
-use Rattle.replay.proofs.prefixes.first_bytes.Reads as first-bytes-reads
 
 abbrev Inv-loop : tie.InvT-loop
 Inv-loop line k bytes₀ at₀ used₀ bytes at used = (at ≤ length line) × (length bytes ≡ length bytes₀)

@@ -1,12 +1,10 @@
-use mathlib.Core.Path.{_≡_, sym}
+use mathlib.Core.Path.{sym}
 use native.Mathlib.Omega.{arith}
 use lib.Seq.{take-all}
 use Rattle.replay.proofs.prefixes.Cutting.{from-zero}
 use borrow.Author.Needs.{needs}
 use Rattle.replay.proofs.prefixes.first_bytes.Statement.{statement}
 use Rattle.replay.proofs.prefixes.first_bytes.Tie as tie
-use Rattle.replay.proofs.prefixes.first_bytes.Reads as reads
-use Rattle.replay.proofs.prefixes.first_bytes.Lts as lts
 
 sub-result : tie.Need-sub-result
 sub-result c = search needs

@@ -1,12 +1,10 @@
-use mathlib.Core.Path.{_≡_, sym}
+use mathlib.Core.Path.{sym}
 use native.Mathlib.Omega.{arith}
 use lib.Seq.{take-all}
 use Rattle.replay.proofs.prefixes.Cutting.{from-zero}
 use borrow.Author.Needs.{needs}
 use Rattle.replay.proofs.prefixes.first_numbers.Statement.{statement}
 use Rattle.replay.proofs.prefixes.first_numbers.Tie as tie
-use Rattle.replay.proofs.prefixes.first_numbers.Reads as reads
-use Rattle.replay.proofs.prefixes.first_numbers.Lts as lts
 
 mul-result : tie.Need-mul-result
 mul-result c = search needs

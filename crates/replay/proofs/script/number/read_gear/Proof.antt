@@ -1,16 +1,10 @@
-use mathlib.Core.Path.{_≡_, refl, sym, _∙_, ap, ap₂}
-use mathlib.Core.Bool.{Bool, true, false}
-use mathlib.Core.List.{List, [], _∷_}
+use mathlib.Core.Path.{_≡_, sym, _∙_, ap}
 use Rattle.replay.specs.declared.script.number.Number.the-variants as Number
 use Rattle.replay.specs.Number.{gearOf, twoSteps, numberOf, beforeColon, afterColon}
 use Rattle.replay.proofs.script.Colon.{no-colon, colon, before-is, after-is}
 use borrow.Author.Needs.{needs}
 use Rattle.replay.proofs.script.number.read_gear.Statement.{statement}
 use Rattle.replay.proofs.script.number.read_gear.Tie as tie
-use Rattle.replay.proofs.script.number.read_gear.Reads as reads
-use Rattle.replay.proofs.script.number.read_gear.Lts as lts
-use Rattle.replay.proofs.script.number.read_number.Reads as read-number-reads
-use Rattle.replay.proofs.script.word.until.Reads as until-reads
 
 until-requires : tie.Need-until-requires
 until-requires c κs = search needs

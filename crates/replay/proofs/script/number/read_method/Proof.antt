@@ -1,17 +1,12 @@
-use mathlib.Core.Path.{_≡_, refl, sym, _∙_, ap, ap₂}
-use mathlib.Core.Bool.{Bool, true, false}
-use mathlib.Core.List.{List, [], _∷_}
+use mathlib.Core.Path.{_≡_, sym, _∙_, ap₂}
+use mathlib.Core.Bool.{true, false}
+use mathlib.Core.List.{[], _∷_}
 use Rattle.replay.specs.Word.{sameBytes}
 use Rattle.replay.specs.Number.{methodOf, stepsOf}
 use Rattle.replay.proofs.script.Colon.{no-colon, colon, before-is, after-is}
 use borrow.Author.Needs.{needs}
 use Rattle.replay.proofs.script.number.read_method.Statement.{statement}
 use Rattle.replay.proofs.script.number.read_method.Tie as tie
-use Rattle.replay.proofs.script.number.read_method.Reads as reads
-use Rattle.replay.proofs.script.number.read_method.Lts as lts
-use Rattle.replay.proofs.script.number.read_steps.Reads as read-steps-reads
-use Rattle.replay.proofs.script.word.same.Reads as same-reads
-use Rattle.replay.proofs.script.word.until.Reads as until-reads
 
 slice-aggregate-same : tie.Need-slice-aggregate-same
 slice-aggregate-same c = search needs

@@ -1,16 +1,12 @@
-use mathlib.Core.Path.{_≡_, refl, sym, _∙_, ap}
-use mathlib.Core.Bool.{Bool, true, false}
-use mathlib.Core.List.{List, [], _∷_}
+use mathlib.Core.Path.{_≡_, sym, _∙_}
+use mathlib.Core.Bool.{true, false}
+use mathlib.Core.List.{[], _∷_}
 use Rattle.replay.specs.declared.script.number.Whole.the-variants as Whole
 use Rattle.replay.specs.Word.{sameBytes}
 use Rattle.replay.specs.Number.{nodeOf, nodeAt, wholeOf}
 use borrow.Author.Needs.{needs}
 use Rattle.replay.proofs.script.number.read_node.Statement.{statement}
 use Rattle.replay.proofs.script.number.read_node.Tie as tie
-use Rattle.replay.proofs.script.number.read_node.Reads as reads
-use Rattle.replay.proofs.script.number.read_node.Lts as lts
-use Rattle.replay.proofs.script.number.read_whole.Reads as read-whole-reads
-use Rattle.replay.proofs.script.word.same.Reads as same-reads
 
 slice-aggregate-same : tie.Need-slice-aggregate-same
 slice-aggregate-same c = search needs

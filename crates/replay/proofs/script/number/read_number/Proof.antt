@@ -1,7 +1,7 @@
-use mathlib.Core.Path.{_≡_, refl, sym, _∙_, ap}
-use mathlib.Core.Bool.{Bool, true, false}
-use mathlib.Core.List.{List, [], _∷_}
-use lib.Ieee.{Float, div, binary64, ofBits}
+use mathlib.Core.Path.{_≡_, sym, _∙_, ap}
+use mathlib.Core.Bool.{true, false}
+use mathlib.Core.List.{[], _∷_}
+use lib.Ieee.{Float, div, ofBits}
 use borrow.Author.Tests.{eq-eqb, ne-eqb}
 use Rattle.hex.specs.Hex.{bitsAt}
 use Rattle.hex.specs.declared.read.Bits.the-variants as Bits
@@ -11,11 +11,6 @@ use Rattle.replay.specs.Number.{numberOf, floatOf}
 use borrow.Author.Needs.{needs}
 use Rattle.replay.proofs.script.number.read_number.Statement.{statement}
 use Rattle.replay.proofs.script.number.read_number.Tie as tie
-use Rattle.replay.proofs.script.number.read_number.Reads as reads
-use Rattle.replay.proofs.script.number.read_number.Lts as lts
-use Rattle.hex.proofs.bits_at.Reads as bits-at-reads
-use Rattle.hex.proofs.float_of.Reads as float-of-reads
-use Rattle.replay.proofs.script.word.same.Reads as same-reads
 
 slice-aggregate-same : tie.Need-slice-aggregate-same
 slice-aggregate-same c = search needs

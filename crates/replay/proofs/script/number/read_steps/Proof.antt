@@ -1,17 +1,12 @@
-use mathlib.Core.Path.{_≡_, refl, sym, _∙_, ap}
-use mathlib.Core.Bool.{Bool, true, false}
-use mathlib.Core.List.{List, [], _∷_}
+use mathlib.Core.Path.{_≡_, sym, _∙_}
+use mathlib.Core.Bool.{true, false}
+use mathlib.Core.List.{[], _∷_}
 use Rattle.replay.specs.declared.script.number.Number.the-variants as Number
 use Rattle.replay.specs.Word.{sameBytes}
 use Rattle.replay.specs.Number.{stepsOf, oneStep, numberOf}
 use borrow.Author.Needs.{needs}
 use Rattle.replay.proofs.script.number.read_steps.Statement.{statement}
 use Rattle.replay.proofs.script.number.read_steps.Tie as tie
-use Rattle.replay.proofs.script.number.read_steps.Reads as reads
-use Rattle.replay.proofs.script.number.read_steps.Lts as lts
-use Rattle.replay.proofs.script.number.read_gear.Reads as read-gear-reads
-use Rattle.replay.proofs.script.number.read_number.Reads as read-number-reads
-use Rattle.replay.proofs.script.word.same.Reads as same-reads
 
 slice-aggregate-same : tie.Need-slice-aggregate-same
 slice-aggregate-same c = search needs

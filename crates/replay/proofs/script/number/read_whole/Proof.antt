@@ -1,5 +1,5 @@
-use Prim.Native.Nat.{ℕ, _+_, _-_, _*_, _≤_, _<_}
-use mathlib.Core.Path.{_≡_, refl, sym, _∙_, ap}
+use Prim.Native.Nat.{_+_, _-_, _*_, _≤_, _<_}
+use mathlib.Core.Path.{_≡_, sym, _∙_}
 use native.Mathlib.Omega.{arith}
 use lib.ListN.{length, drop, getD}
 use borrow.Author.Tests.{eq-eqb, ne-eqb}
@@ -9,8 +9,6 @@ use borrow.Author.Needs.{needs}
 use mathlib.Core.Logic.{⊎-elim}
 use Rattle.replay.proofs.script.number.read_whole.Statement.{statement}
 use Rattle.replay.proofs.script.number.read_whole.Tie as tie
-use Rattle.replay.proofs.script.number.read_whole.Reads as reads
-use Rattle.replay.proofs.script.number.read_whole.Lts as lts
 
 abbrev Inv-loop : tie.InvT-loop
 Inv-loop w n₀ i₀ n i = (i ≤ length w) × (wholeOf w ≡ wholeAfter n (drop i w))

@@ -1,5 +1,5 @@
-use Prim.Native.Nat.{ℕ, _+_, _-_, _*_, _≤_, _<_}
-use mathlib.Core.Path.{_≡_, refl, sym, _∙_}
+use Prim.Native.Nat.{_-_, _≤_}
+use mathlib.Core.Path.{_≡_, sym, _∙_}
 use native.Mathlib.Omega.{arith}
 use lib.ListN.{length, drop}
 use Rattle.replay.specs.Word.{sameBytes}
@@ -7,8 +7,6 @@ use Rattle.replay.proofs.script.Comparing.{other-length, compared, equa
 use borrow.Author.Needs.{needs}
 use Rattle.replay.proofs.script.word.same.Statement.{statement}
 use Rattle.replay.proofs.script.word.same.Tie as tie
-use Rattle.replay.proofs.script.word.same.Reads as reads
-use Rattle.replay.proofs.script.word.same.Lts as lts
 
 abbrev Inv-loop : tie.InvT-loop
 Inv-loop a b i₀ i = (i ≤ length a) × (length a ≡ length b) × (sameBytes a b ≡ sameBytes (drop i a) (drop i b))

@@ -1,16 +1,13 @@
-use Prim.Native.Nat.{ℕ, suc, _+_, _-_, _*_, _≤_, _<_, min}
-use mathlib.Core.Path.{_≡_, refl, sym, _∙_, ap}
-use mathlib.Core.Bool.{Bool}
+use Prim.Native.Nat.{suc, _+_, _-_, _≤_}
+use mathlib.Core.Path.{_≡_}
 use native.Mathlib.Omega.{arith}
-use lib.ListN.{length, drop, getD}
+use lib.ListN.{length, drop}
 use borrow.Author.Tests.{eq-eqb, ne-eqb}
 use Rattle.replay.specs.Word.{leading, isSpace, skipSpacesOf}
 use Rattle.replay.proofs.script.Leading.{leading-end, leading-stops, leading-goes-on}
 use borrow.Author.Needs.{needs}
 use Rattle.replay.proofs.script.word.skip_spaces.Statement.{statement}
 use Rattle.replay.proofs.script.word.skip_spaces.Tie as tie
-use Rattle.replay.proofs.script.word.skip_spaces.Reads as reads
-use Rattle.replay.proofs.script.word.skip_spaces.Lts as lts
 
 abbrev Inv-loop : tie.InvT-loop
 Inv-loop s at i₀ i = (at ≤ i) × (i ≤ length s) × (at + leading isSpace (drop at s) ≡ i + leading isSpace (drop i s))

@@ -1,16 +1,14 @@
-use Prim.Native.Nat.{ℕ, suc, _+_, _-_, _*_, _≤_, _<_, min}
-use mathlib.Core.Path.{_≡_, refl, sym, _∙_, ap}
-use mathlib.Core.Bool.{Bool, not}
+use Prim.Native.Nat.{suc, _+_, _-_, _≤_}
+use mathlib.Core.Path.{_≡_, ap}
+use mathlib.Core.Bool.{not}
 use native.Mathlib.Omega.{arith}
-use lib.ListN.{length, drop, getD}
+use lib.ListN.{length, drop}
 use borrow.Author.Tests.{eq-eqb, ne-eqb}
 use Rattle.replay.specs.Word.{leading, isNot, untilOf}
 use Rattle.replay.proofs.script.Leading.{leading-end, leading-stops, leading-goes-on}
 use borrow.Author.Needs.{needs}
 use Rattle.replay.proofs.script.word.until.Statement.{statement}
 use Rattle.replay.proofs.script.word.until.Tie as tie
-use Rattle.replay.proofs.script.word.until.Reads as reads
-use Rattle.replay.proofs.script.word.until.Lts as lts
 
 abbrev Inv-loop : tie.InvT-loop
 Inv-loop s at stop i₀ i = (at ≤ i) × (i ≤ length s) × (at + leading (isNot stop) (drop at s) ≡ i + leading (isNot stop) (drop i s))

@@ -1,14 +1,10 @@
 use Prim.Native.Nat.{ℕ, _-_}
-use mathlib.Core.Path.{_≡_, _∙_, ap, ap₂}
+use mathlib.Core.Path.{_∙_, ap, ap₂}
 use lib.ListN.{take, drop}
 use borrow.Author.Needs.{needs}
 use Rattle.replay.specs.Word.{wordOf, untilOf}
 use Rattle.replay.proofs.script.word.word.Statement.{statement}
 use Rattle.replay.proofs.script.word.word.Tie as tie
-use Rattle.replay.proofs.script.word.word.Reads as reads
-use Rattle.replay.proofs.script.word.word.Lts as lts
-use Rattle.replay.proofs.script.word.until.Reads as until-reads
-use Rattle.replay.proofs.script.word.word_start.Reads as word-start-reads
 
 word-start-requires : tie.Need-word-start-requires
 word-start-requires c κs = search needs

@@ -1,5 +1,5 @@
-use Prim.Native.Nat.{ℕ, suc, _+_, _-_, _*_, _≤_, _<_}
-use mathlib.Core.Path.{_≡_, refl, sym, _∙_, ap}
+use Prim.Native.Nat.{ℕ, suc, _+_, _-_, _≤_}
+use mathlib.Core.Path.{_≡_, sym, _∙_, ap}
 use mathlib.Core.Bool.{true, false}
 use native.Mathlib.Omega.{arith}
 use lib.ListN.{length, drop, drop-of-length-le}
@@ -8,10 +8,6 @@ use Rattle.replay.proofs.script.Counting.{skipping, no-space-behind, pa
 use borrow.Author.Needs.{needs}
 use Rattle.replay.proofs.script.word.word_count.Statement.{statement}
 use Rattle.replay.proofs.script.word.word_count.Tie as tie
-use Rattle.replay.proofs.script.word.word_count.Reads as reads
-use Rattle.replay.proofs.script.word.word_count.Lts as lts
-use Rattle.replay.proofs.script.word.skip_spaces.Reads as skip-spaces-reads
-use Rattle.replay.proofs.script.word.until.Reads as until-reads
 
 abbrev Inv-loop : tie.InvT-loop
 Inv-loop line at₀ n₀ at n = (at ≤ length line) × (n ≤ at) × (n + wordsIn false (drop at line) ≡ wordsIn false line) × (leading isSpace (drop at line) ≡ 0)

@@ -1,15 +1,11 @@
-use Prim.Native.Nat.{ℕ, suc, _+_, _-_, _*_, _≤_, _<_}
-use mathlib.Core.Path.{_≡_, refl, sym, _∙_, ap}
+use Prim.Native.Nat.{ℕ, suc, _-_, _≤_}
+use mathlib.Core.Path.{_≡_, sym, _∙_, ap}
 use native.Mathlib.Omega.{arith}
 use lib.ListN.{length}
 use Rattle.replay.specs.Word.{wordStartOf, skipSpacesOf, untilOf}
 use borrow.Author.Needs.{needs}
 use Rattle.replay.proofs.script.word.word_start.Statement.{statement}
 use Rattle.replay.proofs.script.word.word_start.Tie as tie
-use Rattle.replay.proofs.script.word.word_start.Reads as reads
-use Rattle.replay.proofs.script.word.word_start.Lts as lts
-use Rattle.replay.proofs.script.word.skip_spaces.Reads as skip-spaces-reads
-use Rattle.replay.proofs.script.word.until.Reads as until-reads
 
 abbrev Inv-loop : tie.InvT-loop
 Inv-loop line k at₀ left₀ at left = (at ≤ length line) × (left ≤ k) × (at ≡ wordStartOf line (k - left))

@@ -1,22 +1,17 @@
-use Prim.Native.Nat.{ℕ, _+_, _-_, _*_, _/_, _%_, _≤_, _<_}
+use Prim.Native.Nat.{_+_, _-_, _*_, _/_, _≤_}
 use mathlib.Core.Path.{_≡_, sym, _∙_, ap, ap₂}
 use mathlib.Core.Bool.{true, false}
 use native.Mathlib.Omega.{arith}
 use mathlib.Core.List.{[], _∷_}
-use lib.ListN.{length, drop, getD, set}
-use Rattle.hex.specs.Hex.{digitOf}
+use lib.ListN.{length, drop, getD}
 use Rattle.replay.specs.declared.script_lists.Count.the-variants as Count
 use Rattle.replay.specs.Lists.{is, none, twos, byteIn, byteFrom, fitBytes, isEmptyList}
 use Rattle.replay.proofs.script_lists.Filling.{Going, begun, further, unread, finished}
 use Rattle.replay.proofs.script_lists.Cutting.{next-two, no-two}
-use Rattle.replay.proofs.script_lists.Digits.{ReadBytes, empty-bytes, unfit-bytes, bytes-over, odd, too-long, fit, byte-high, byte-low, byte-both}
+use Rattle.replay.proofs.script_lists.Digits.{empty-bytes, unfit-bytes, bytes-over, odd, too-long, fit, byte-high, byte-low, byte-both}
 use borrow.Author.Needs.{needs}
 use Rattle.replay.proofs.script_lists.byte_list.bytes.Statement.{statement}
 use Rattle.replay.proofs.script_lists.byte_list.bytes.Tie as tie
-use Rattle.replay.proofs.script_lists.byte_list.bytes.Reads as reads
-use Rattle.replay.proofs.script_lists.byte_list.bytes.Lts as lts
-use Rattle.hex.proofs.digit.Reads as digit-reads
-use Rattle.replay.proofs.script.word.same.Reads as same-reads
 
 abbrev Inv-loop : tie.InvT-loop
 Inv-loop w out₀ count i₀ out i = (i ≤ count) × Going byteIn (length out₀) (twos w) out₀ (twos (drop (2 * i) w)) i out

@@ -1,4 +1,4 @@
-use Prim.Native.Nat.{ℕ, _+_, _-_, _≤_, _<_}
+use Prim.Native.Nat.{_-_, _≤_}
 use mathlib.Core.Path.{_≡_, sym, _∙_, ap}
 use mathlib.Core.Bool.{true, false}
 use native.Mathlib.Omega.{arith}
@@ -10,11 +10,6 @@ use Rattle.replay.proofs.script_lists.Reading.{empty-read, no-room, not
 use borrow.Author.Needs.{needs}
 use Rattle.replay.proofs.script_lists.column_list.columns.Statement.{statement}
 use Rattle.replay.proofs.script_lists.column_list.columns.Tie as tie
-use Rattle.replay.proofs.script_lists.column_list.columns.Reads as reads
-use Rattle.replay.proofs.script_lists.column_list.columns.Lts as lts
-use Rattle.replay.proofs.script.word.same.Reads as same-reads
-use Rattle.replay.proofs.script.word.until.Reads as until-reads
-use Rattle.replay.proofs.script_lists.column_list.read_column.Reads as read-column-reads
 
 abbrev Inv-loop : tie.InvT-loop
 Inv-loop w out₀ at₀ n₀ out at n = (at ≤ length w) × Going columnIn (length out₀) (items w) out₀ (items (drop at w)) n out

@@ -1,4 +1,4 @@
-use mathlib.Core.Path.{_≡_, sym, _∙_, ap}
+use mathlib.Core.Path.{_≡_, sym, _∙_}
 use borrow.Author.Tests.{lt-ltb, le-ltb}
 use native.Mathlib.Omega.{arith}
 use Rattle.replay.specs.Number.{wholeOf}
@@ -7,9 +7,6 @@ use Rattle.replay.specs.Items.{columnOf, ofWhole}
 use borrow.Author.Needs.{needs}
 use Rattle.replay.proofs.script_lists.column_list.read_column.Statement.{statement}
 use Rattle.replay.proofs.script_lists.column_list.read_column.Tie as tie
-use Rattle.replay.proofs.script_lists.column_list.read_column.Reads as reads
-use Rattle.replay.proofs.script_lists.column_list.read_column.Lts as lts
-use Rattle.replay.proofs.script.number.read_whole.Reads as read-whole-reads
 
 read-whole-requires : tie.Need-read-whole-requires
 read-whole-requires c κs = search needs

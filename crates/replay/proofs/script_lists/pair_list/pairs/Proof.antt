@@ -1,9 +1,9 @@
-use Prim.Native.Nat.{ℕ, _+_, _-_, _≤_, _<_, min}
+use Prim.Native.Nat.{_-_, _≤_, min}
 use mathlib.Core.Path.{_≡_, sym, _∙_, ap}
 use mathlib.Core.Bool.{true, false}
 use native.Mathlib.Omega.{arith}
 use lib.ListN.{length, take, drop}
-use Rattle.replay.specs.Lists.{is, none, items, isEmptyList}
+use Rattle.replay.specs.Lists.{items, isEmptyList}
 use Rattle.replay.specs.Items.{offsetIn, offsetItem, lengthIn, lengthItem, pairOf}
 use Rattle.replay.specs.declared.script_lists.pair_list.Pair.the-variants as Pair
 use Rattle.replay.proofs.script_lists.Filling.{Going, begun}
@@ -11,11 +11,6 @@ use Rattle.replay.proofs.script_lists.Reading.{empty-read, no-room, not
 use borrow.Author.Needs.{needs}
 use Rattle.replay.proofs.script_lists.pair_list.pairs.Statement.{statement}
 use Rattle.replay.proofs.script_lists.pair_list.pairs.Tie as tie
-use Rattle.replay.proofs.script_lists.pair_list.pairs.Reads as reads
-use Rattle.replay.proofs.script_lists.pair_list.pairs.Lts as lts
-use Rattle.replay.proofs.script.word.same.Reads as same-reads
-use Rattle.replay.proofs.script.word.until.Reads as until-reads
-use Rattle.replay.proofs.script_lists.pair_list.read_pair.Reads as read-pair-reads
 
 abbrev Inv-loop : tie.InvT-loop
 Inv-loop w offsets₀ lengths₀ at₀ n₀ offsets lengths at n = (at ≤ length w) × Going offsetIn (min (length offsets₀) (length lengths₀)) (items w) offsets₀ (items (drop at w)) n offsets × Going lengthIn (min (length offsets₀) (length lengths₀)) (items w) lengths₀ (items (drop at w)) n lengths

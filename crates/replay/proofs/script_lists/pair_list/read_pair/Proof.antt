@@ -7,10 +7,6 @@ use Rattle.replay.specs.Items.{pairOf, bothWhole}
 use borrow.Author.Needs.{needs}
 use Rattle.replay.proofs.script_lists.pair_list.read_pair.Statement.{statement}
 use Rattle.replay.proofs.script_lists.pair_list.read_pair.Tie as tie
-use Rattle.replay.proofs.script_lists.pair_list.read_pair.Reads as reads
-use Rattle.replay.proofs.script_lists.pair_list.read_pair.Lts as lts
-use Rattle.replay.proofs.script.number.read_whole.Reads as read-whole-reads
-use Rattle.replay.proofs.script.word.until.Reads as until-reads
 
 until-requires : tie.Need-until-requires
 until-requires c κs = search needs
