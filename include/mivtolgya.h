@@ -1,11 +1,12 @@
 /* The SPICE Level-1 MOSFET model: its calls for C and C++ on x86-64 Linux. Link libmivtolgya.a (`rt staticlib mivtolgya` writes it
  * to target/staticlib/). docs/USING.md has the order of the calls, the table of refusals, the keys with their ranges, and memory.
  *
- * A device is a record in the caller's memory. A call takes it by value and answers the record that is to take its place, with the
- * number of the refusal: MIVTOLGYA_ACCEPTED, or one of MIVTOLGYA_REFUSED_.. below. After a refusal the record answered is the one
- * handed in and nothing lent was written. Evaluation, load and commit stand here also for a record where it lies (`_in_place`): the
- * same answers and the same record afterwards, but only what changes is written and nothing is copied. A loop should call these, and
- * mivtolgya_load_resolved in place of the load where the matrix is large: its cells are looked up once, by mivtolgya_resolve.
+ * A device is a record in the caller's memory. A call before the loop takes it by value and answers the record that is to take its
+ * place, with the number of the refusal: MIVTOLGYA_ACCEPTED, or one of MIVTOLGYA_REFUSED_.. below. After a refusal the record answered
+ * is the one handed in and nothing lent was written. Evaluation, load and commit stand over the record where it lies (`_in_place`):
+ * only what changes is written and nothing is copied. mivtolgya_load_resolved takes the place of the load where the matrix is large:
+ * its cells are looked up once, by mivtolgya_resolve. mivtolgya_eval, mivtolgya_load and mivtolgya_commit_timestep, inline at the end
+ * of this file, are the same calls on a copy of the record.
  *
  * Rules of every pointer. A lent slice is a pointer and the count of its elements. The pointer is not null, also where the count is
  * 0, and aligned for its element: 8 bytes for double and size_t, 4 for uint32_t. A slice that is only read (const) may overlap other
@@ -33,7 +34,7 @@ extern "C" {
 #define MIVTOLGYA_ASSERT(name, test) typedef char mivtolgya_assert_##name[(test) ? 1 : -1]
 #endif
 
-/* The interface's number. It rises with each change of a record, a call or the meaning of a number. */
+/* The interface's number. It rises when a record, the parameters of a call or the meaning of a number changes. */
 #define MIVTOLGYA_VERSION UINT64_C(1)
 
 /* ---- refusals. The causes, and what to do, are in the table of docs/USING.md */
@@ -290,8 +291,8 @@ typedef struct {
     double gmbs;
 } mivtolgya_answer;
 
-/* The device after an evaluation, what it answers, and the number of the refusal. A refused one answers zeros and the device handed
- * in. */
+/* The device after an evaluation by value, what it answers, and the number of the refusal. A refused one answers zeros and the device
+ * handed in. */
 typedef struct {
     uint64_t refusal;
     mivtolgya_answer answer;
@@ -441,41 +442,6 @@ mivtolgya_device_outcome mivtolgya_setup_instance(
     mivtolgya_nodes nodes,
     size_t first);
 
-/* Evaluates at the node voltages `x`, in volts, one for each row.
- * x: not null, aligned to 8, only read. */
-mivtolgya_evaluation_outcome mivtolgya_eval(
-    mivtolgya_device device,
-    const double *x,
-    size_t x_count,
-    mivtolgya_conditions conditions);
-
-/* Adds the device to the right-hand side and the matrix. Row i of the matrix is `lengths[i]` values from `offsets[i]` on, in the
- * columns that stand at the same places of `columns`, rising. `transient` is 0 or 1. alpha, in 1/s, is read where the last
- * evaluation had no step. Answers the number of the refusal.
- * rhs, values: not null, aligned to 8, written: neither overlaps the other or anything else that is lent.
- * columns: not null, aligned to 4, only read. offsets, lengths: not null, aligned to 8, only read. */
-uint64_t mivtolgya_load(
-    mivtolgya_device device,
-    uint64_t transient,
-    double alpha,
-    double *rhs,
-    size_t rhs_count,
-    double *values,
-    size_t value_count,
-    const uint32_t *columns,
-    size_t column_count,
-    const size_t *offsets,
-    size_t offset_count,
-    const size_t *lengths,
-    size_t length_count);
-
-/* Commits the step at the node voltages `x`: the evaluated charges become the last ones.
- * x: not null, aligned to 8, only read. */
-mivtolgya_device_outcome mivtolgya_commit_timestep(
-    mivtolgya_device device,
-    const double *x,
-    size_t x_count);
-
 /* The noise source at a temperature in kelvin and a frequency in hertz. */
 mivtolgya_noise_outcome mivtolgya_noise_sources(
     mivtolgya_device device,
@@ -486,7 +452,7 @@ mivtolgya_noise_outcome mivtolgya_noise_sources(
 mivtolgya_reactances_outcome mivtolgya_small_signal_reactances(
     mivtolgya_device device);
 
-/* `mivtolgya_eval` of the record where it lies.
+/* Evaluates at the node voltages `x`, in volts, one for each row.
  * device: not null, aligned to 8, written where the call is accepted: overlaps nothing else that is lent.
  * x: not null, aligned to 8, only read. */
 mivtolgya_evaluation_reply mivtolgya_eval_in_place(
@@ -495,8 +461,12 @@ mivtolgya_evaluation_reply mivtolgya_eval_in_place(
     size_t x_count,
     mivtolgya_conditions conditions);
 
-/* `mivtolgya_load` of the record where it lies.
- * device: not null, aligned to 8, only read. The slices and their pointers as for `mivtolgya_load`. */
+/* Adds the device to the right-hand side and the matrix. Row i of the matrix is `lengths[i]` values from `offsets[i]` on, in the
+ * columns that stand at the same places of `columns`, rising. `transient` is 0 or 1. alpha, in 1/s, is read where the last
+ * evaluation had no step. Answers the number of the refusal.
+ * device: not null, aligned to 8, only read.
+ * rhs, values: not null, aligned to 8, written: neither overlaps the other or anything else that is lent.
+ * columns: not null, aligned to 4, only read. offsets, lengths: not null, aligned to 8, only read. */
 uint64_t mivtolgya_load_in_place(
     const mivtolgya_device *device,
     uint64_t transient,
@@ -512,7 +482,7 @@ uint64_t mivtolgya_load_in_place(
     const size_t *lengths,
     size_t length_count);
 
-/* `mivtolgya_commit_timestep` of the record where it lies. Answers the number of the refusal.
+/* Commits the step at the node voltages `x`: the evaluated charges become the last ones. Answers the number of the refusal.
  * device: not null, aligned to 8, written where the call is accepted: overlaps nothing else that is lent.
  * x: not null, aligned to 8, only read. */
 uint64_t mivtolgya_commit_in_place(
@@ -741,6 +711,46 @@ static inline uint64_t mivtolgya_scale(mivtolgya_device *device, double temperat
 static inline uint64_t mivtolgya_bind(mivtolgya_device *device, mivtolgya_nodes nodes, size_t first) {
     mivtolgya_device_outcome o = mivtolgya_setup_instance(*device, nodes, first);
     return mivtolgya_keep(device, o.refusal, &o.device);
+}
+
+/* ---- the calls of the loop by value: each is the call in place on a copy of the record. A refused one answers the record handed in */
+
+static inline mivtolgya_evaluation_outcome mivtolgya_eval(
+    mivtolgya_device device,
+    const double *x,
+    size_t x_count,
+    mivtolgya_conditions conditions) {
+    mivtolgya_evaluation_outcome o;
+    mivtolgya_evaluation_reply reply = mivtolgya_eval_in_place(&device, x, x_count, conditions);
+    o.refusal = reply.refusal;
+    o.answer = reply.answer;
+    o.device = device;
+    return o;
+}
+
+static inline uint64_t mivtolgya_load(
+    mivtolgya_device device,
+    uint64_t transient,
+    double alpha,
+    double *rhs,
+    size_t rhs_count,
+    double *values,
+    size_t value_count,
+    const uint32_t *columns,
+    size_t column_count,
+    const size_t *offsets,
+    size_t offset_count,
+    const size_t *lengths,
+    size_t length_count) {
+    return mivtolgya_load_in_place(&device, transient, alpha, rhs, rhs_count, values, value_count, columns, column_count, offsets,
+                                   offset_count, lengths, length_count);
+}
+
+static inline mivtolgya_device_outcome mivtolgya_commit_timestep(mivtolgya_device device, const double *x, size_t x_count) {
+    mivtolgya_device_outcome o;
+    o.refusal = mivtolgya_commit_in_place(&device, x, x_count);
+    o.device = device;
+    return o;
 }
 
 #ifdef __cplusplus

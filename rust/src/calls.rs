@@ -1,12 +1,10 @@
 //! The exports of the archive, as include/mivtolgya.h declares them. A slice is handed over as a pointer and a count; a slice's
 //! pointer is never null, also where it is empty.
 use crate::record::{
-    Cells, ConditionsRecord, CountOutcome, DeviceOutcome, DeviceRecord, EvaluationOutcome, EvaluationReply, KeysOutcome, NodesRecord,
-    NoiseOutcome, ReactancesOutcome, ResolveOutcome,
+    Cells, ConditionsRecord, CountOutcome, DeviceOutcome, DeviceRecord, EvaluationReply, KeysOutcome, NodesRecord, NoiseOutcome,
+    ReactancesOutcome, ResolveOutcome,
 };
 
-// three have no caller here: those by value that stand in place too
-#[allow(dead_code)]
 extern "C" {
     pub fn mivtolgya_version() -> u64;
     pub fn mivtolgya_device_size() -> usize;
@@ -40,23 +38,6 @@ extern "C" {
     pub fn mivtolgya_setup_model(device: DeviceRecord, temperature: f64) -> DeviceOutcome;
     pub fn mivtolgya_num_extra_nodes(device: DeviceRecord) -> CountOutcome;
     pub fn mivtolgya_setup_instance(device: DeviceRecord, nodes: NodesRecord, first: usize) -> DeviceOutcome;
-    pub fn mivtolgya_eval(device: DeviceRecord, x: *const f64, x_count: usize, conditions: ConditionsRecord) -> EvaluationOutcome;
-    pub fn mivtolgya_load(
-        device: DeviceRecord,
-        transient: u64,
-        alpha: f64,
-        rhs: *mut f64,
-        rhs_count: usize,
-        values: *mut f64,
-        value_count: usize,
-        columns: *const u32,
-        column_count: usize,
-        offsets: *const usize,
-        offset_count: usize,
-        lengths: *const usize,
-        length_count: usize,
-    ) -> u64;
-    pub fn mivtolgya_commit_timestep(device: DeviceRecord, x: *const f64, x_count: usize) -> DeviceOutcome;
     pub fn mivtolgya_noise_sources(device: DeviceRecord, temperature: f64, freq: f64) -> NoiseOutcome;
     pub fn mivtolgya_small_signal_reactances(device: DeviceRecord) -> ReactancesOutcome;
     pub fn mivtolgya_eval_in_place(

@@ -1,7 +1,7 @@
 -- What a caller's object is held to before its first call: the interface's number, and the size of the device's record.
 use Prim.Native.Nat.{ℕ, _+_, _*_}
 
--- It rises with each change of a record, a call or the meaning of a number (docs/USING.md, "Interface version").
+-- It rises when a record, the parameters of a call or the meaning of a number changes (docs/USING.md, "Interface version").
 abbrev pub interfaceVersion : ℕ
 interfaceVersion = 1
 

@@ -1,9 +1,8 @@
-// The calls for C and Rust on x86-64 (include/mivtolgya.h). Each takes the caller's record by value and answers the record that is
-// to take its place; a lent slice is a pointer and a length. Each is the call of the same name on records, whose definitions say
-// what is answered and what the lent slices hold afterwards.
-// The three calls of the loop stand here also for a record where it lies, with the same definitions. Those by value call them on a
-// copy: with one caller for each of the large functions below, the compiler makes one function of a call, which reads of the record
-// what it needs and copies nothing.
+// The calls for C and Rust on x86-64 (include/mivtolgya.h). A lent slice is a pointer and a length. Each is the call of the same name
+// on records, whose definitions say what is answered and what the lent slices hold afterwards.
+// The calls before the loop take the caller's record by value and answer the record that is to take its place. Those of the loop,
+// evaluation, both loads and commit, stand over the record where it lies and write only what changes: each large function below has
+// one caller, so the compiler makes one function of a call, which reads of the record what it needs and copies nothing.
 use record::DeviceOutcome;
 use record::DeviceRecord;
 use record_card::KeysOutcome;
@@ -15,7 +14,6 @@ use record_small_signal::ReactancesOutcome;
 use record_steps::ChangesOrRefusal;
 use record_steps::CommitAnswer;
 use record_steps::ConditionsRecord;
-use record_steps::EvaluationOutcome;
 use record_steps::EvaluationReply;
 ghost use mathlib.Core.Path.{_≡_};
 ghost use lib.ListN.{length};
@@ -100,59 +98,6 @@ pub extern "C" fn mivtolgya_setup_instance(
     ensures { λ o. ⌜ o ≡ bindingCall device nodes first ⌝ }
 {
     record_setup::setup_instance(device, nodes, first)
-}
-
-#[no_mangle]
-pub extern "C" fn mivtolgya_eval(
-    device: DeviceRecord,
-    x: &[f64],
-    conditions: ConditionsRecord,
-) -> EvaluationOutcome
-    ensures { λ o. ⌜ o ≡ evalCall device (now (x .entry)) conditions ⌝ }
-{
-    let mut d = device;
-    let reply = mivtolgya_eval_in_place(&mut d, x, conditions);
-    EvaluationOutcome {
-        refusal: reply.refusal,
-        answer: reply.answer,
-        device: d,
-    }
-}
-
-#[no_mangle]
-pub extern "C" fn mivtolgya_load(
-    device: DeviceRecord,
-    transient: u64,
-    alpha: f64,
-    rhs: &mut [f64],
-    values: &mut [f64],
-    columns: &[u32],
-    offsets: &[usize],
-    lengths: &[usize],
-) -> u64
-    ensures { λ o. ⌜ (o ≡ loadCall device transient alpha (record { columns = now (columns .entry); offsets = now (offsets .entry); lengths = now (lengths .entry) }) (now (rhs .entry)) (now (values .entry)))
-        × ((now (rhs .exit) ≡ loadedSide device transient alpha (record { columns = now (columns .entry); offsets = now (offsets .entry); lengths = now (lengths .entry) }) (now (rhs .entry)) (now (values .entry)))
-        × (now (values .exit) ≡ loadedMatrix device transient alpha (record { columns = now (columns .entry); offsets = now (offsets .entry); lengths = now (lengths .entry) }) (now (rhs .entry)) (now (values .entry)))) ⌝ }
-{
-    mivtolgya_load_in_place(
-        &device,
-        transient,
-        alpha,
-        rhs,
-        values,
-        columns,
-        offsets,
-        lengths,
-    )
-}
-
-#[no_mangle]
-pub extern "C" fn mivtolgya_commit_timestep(device: DeviceRecord, x: &[f64]) -> DeviceOutcome
-    ensures { λ o. ⌜ o ≡ commitCall device (now (x .entry)) ⌝ }
-{
-    let mut d = device;
-    let refusal = mivtolgya_commit_in_place(&mut d, x);
-    DeviceOutcome { refusal, device: d }
 }
 
 #[no_mangle]

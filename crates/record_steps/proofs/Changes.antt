@@ -21,7 +21,6 @@ use Rattle.record.specs.declared.DeviceRecord.{DeviceRecord}
 use Rattle.from_record.specs.Devices.{chargesFrom, deviceFrom}
 use Rattle.from_record.specs.Tags.{goodTags}
 use Rattle.record_steps.specs.declared.ConditionsRecord.{ConditionsRecord}
-use Rattle.record_steps.specs.declared.EvaluationOutcome.{EvaluationOutcome}
 use Rattle.record_steps.specs.declared.EvaluationReply.{EvaluationReply}
 use Rattle.record_steps.specs.declared.EvaluationChanges.{EvaluationChanges}
 use Rattle.record_steps.specs.declared.DirectCurrentChanges.{DirectCurrentChanges}
@@ -30,7 +29,7 @@ use Rattle.record_steps.specs.declared.ChangesOrRefusal.the-variants.{Ch
 use Rattle.record_steps.specs.declared.CommitChanges.{CommitChanges}
 use Rattle.record_steps.specs.declared.CommitAnswer.{CommitAnswer}
 use Rattle.record_steps.specs.declared.CommitAnswer.the-variants as CommitAnswer
-use Rattle.record_steps.specs.Steps.{goodConditions, conditionsFrom, refusedReply, refusedEvaluation, evaluatedRecord, evaluatedOutcome, evaluationOutcome, evalCall, replyOf, changedRecord, directCurrentRecord, outcomeFrom, evaluatedChanges, directCurrentGiven, evaluationGiven, evaluateOf, committedRecord, commitOutcome, commitCall, advancedRecord, commitGiven, commitRecordOf, commitOutcomeFrom}
+use Rattle.record_steps.specs.Steps.{EvaluationOutcome, goodConditions, conditionsFrom, refusedReply, refusedEvaluation, evaluatedRecord, evaluatedOutcome, evaluationOutcome, evalCall, replyOf, changedRecord, directCurrentRecord, outcomeFrom, evaluatedChanges, directCurrentGiven, evaluationGiven, evaluateOf, committedRecord, commitOutcome, commitCall, advancedRecord, commitGiven, commitRecordOf, commitOutcomeFrom}
 
 -- ---- the evaluation
 

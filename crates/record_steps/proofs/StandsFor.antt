@@ -21,8 +21,7 @@ use Rattle.from_record.specs.Devices.{pointFrom, chargesFrom, deviceFrom}
 use Rattle.from_record.specs.Tags.{goodTerminals, goodHistories, goodStage, goodTags}
 use Rattle.from_record.proofs.ThereAndBack.{device-back, device-tags}
 use Rattle.record_steps.specs.declared.ConditionsRecord.{ConditionsRecord}
-use Rattle.record_steps.specs.declared.EvaluationOutcome.{EvaluationOutcome}
-use Rattle.record_steps.specs.Steps.{goodConditions, conditionsFrom, refusedEvaluation, evaluatedRecord, evaluatedOutcome, evaluationOutcome, evalCall, committedRecord, commitOutcome, commitCall}
+use Rattle.record_steps.specs.Steps.{EvaluationOutcome, goodConditions, conditionsFrom, refusedEvaluation, evaluatedRecord, evaluatedOutcome, evaluationOutcome, evalCall, committedRecord, commitOutcome, commitCall}
 
 -- ---- the device
 

@@ -21,7 +21,6 @@ use Rattle.from_record.specs.Devices.{deviceFrom, methodFrom}
 use Rattle.from_record.specs.Tags.{goodTags}
 use Rattle.record_steps.specs.declared.AnswerRecord.{AnswerRecord}
 use Rattle.record_steps.specs.declared.ConditionsRecord.{ConditionsRecord}
-use Rattle.record_steps.specs.declared.EvaluationOutcome.{EvaluationOutcome}
 use Rattle.record_steps.specs.declared.EvaluationReply.{EvaluationReply}
 use Rattle.record_steps.specs.declared.EvaluationChanges.{EvaluationChanges}
 use Rattle.record_steps.specs.declared.DirectCurrentChanges.{DirectCurrentChanges}
@@ -46,6 +45,12 @@ conditionsFrom k =
 unfoldable pub answerRecord : Answer → AnswerRecord
 answerRecord a =
     record { vgs = a .vgs; vds = a .vds; vth = a .vth; ids = a .ids; gm = a .gm; gds = a .gds; gmbs = a .gmbs }
+
+-- what an evaluation is in all: the number of the refusal, what is answered, and the record afterwards
+pub record EvaluationOutcome : Type 0 where
+  pub refusal : ℕ
+  pub answer : AnswerRecord
+  pub device : DeviceRecord
 
 -- a refusal carries its number; the answer is zeros, the device the one handed in
 unfoldable pub refusedReply : ℕ → EvaluationReply

@@ -53,8 +53,7 @@ use Rattle.record_steps.specs.declared.ChangesOrRefusal.the-variants.{Changes, 
 use Rattle.record_steps.specs.declared.EvaluationChanges.{EvaluationChanges}
 use Rattle.record_steps.specs.declared.DirectCurrentChanges.{DirectCurrentChanges}
 use Rattle.record_steps.specs.declared.EvaluationReply.{EvaluationReply}
-use Rattle.record_steps.specs.declared.EvaluationOutcome.{EvaluationOutcome}
-use Rattle.record_steps.specs.Steps.{evalCall, evaluateOf, outcomeFrom, changedRecord, directCurrentRecord, replyOf}
+use Rattle.record_steps.specs.Steps.{EvaluationOutcome, evalCall, evaluateOf, outcomeFrom, changedRecord, directCurrentRecord, replyOf}
 use Rattle.record_steps.proofs.Changes.{evaluation-outcome, reply-of-changes, device-of-changes, reply-of-direct-current, device-of-direct-current, reply-of-refusal, device-of-refusal}
 use Rattle.record.proofs.DeviceRecord as T
 use Rattle.record.proofs.DeviceRecord.Laws as T′
