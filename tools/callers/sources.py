@@ -25,13 +25,23 @@ def with_cells(path):
     return read(path).replace(CELL_NUMBERS, "Cells")
 
 
+# The parts of a record that are the model's own structs, which have no "Record" in their names; header and wrapper call them so.
+OWN_STRUCTS = {
+    "Geometry": "GeometryRecord",
+    "Scaled": "ScaledRecord",
+    "OperatingPoint": "PointRecord",
+    "Charges": "ChargesRecord",
+    "Answer": "AnswerRecord",
+}
+
+
 def records():
     """Every #[repr(C)] struct: its name to its fields in order, each (name, type)."""
     found = {}
     for path in sorted(glob.glob("crates/*/src/*.rt")):
         for name, body in re.findall(r"#\[repr\(C\)\]\npub struct (\w+) \{(.*?)\}", with_cells(path), re.S):
-            fields = filter(None, (f.strip() for f in re.split(r"[,\n]", body)))
-            found[name] = [tuple(f.removeprefix("pub ").split(": ")) for f in fields]
+            fields = (f.strip().removeprefix("pub ").split(": ") for f in re.split(r"[,\n]", body) if f.strip())
+            found[OWN_STRUCTS.get(name, name)] = [(field, OWN_STRUCTS.get(kind, kind)) for field, kind in fields]
     if any(kind == "Cells" for fields in found.values() for _, kind in fields):
         found["Cells"] = CELLS
     return found

@@ -20,7 +20,9 @@ pub struct Kept {
     pub vds: f64,
 }
 
-// What an evaluation answers: the kept voltages and the threshold flipped, the current not; gds has gmin on top.
+// What an evaluation answers: the kept voltages and the threshold flipped, the current not; gds has gmin on top. Callers in C are
+// given it as it is.
+#[repr(C)]
 pub struct Answer {
     pub vgs: f64,
     pub vds: f64,

@@ -1,4 +1,5 @@
 // The device record and the types of its calls (the Rust's device.rs, and `Mosfet1` of mosfet1.rs).
+// Structs of numbers alone are laid out as in C, so that the record for C holds them as they are.
 ghost use mathlib.Core.Path.{_≡_};
 ghost use Rattle.device.specs.Limits.{within, outsideTemperatures};
 ghost use Rattle.device.specs.Stages.{stageNumber, before};
@@ -95,6 +96,7 @@ pub struct Card {
 }
 
 // The instance's geometry, and what follows from it and the card.
+#[repr(C)]
 pub struct Geometry {
     pub rd: f64,
     pub rs: f64,
@@ -120,6 +122,7 @@ pub struct Geometry {
 }
 
 // The parameters at the scaling's temperature.
+#[repr(C)]
 pub struct Scaled {
     pub isat_t_factor: f64,
     pub pb_t: f64,
@@ -141,6 +144,7 @@ pub struct Terminals {
 }
 
 // What the last evaluation left: conductances, offsets, the current and the kept voltages.
+#[repr(C)]
 pub struct OperatingPoint {
     pub ids_eval: f64,
     pub gbs: f64,
@@ -156,6 +160,7 @@ pub struct OperatingPoint {
 }
 
 // What the last transient evaluation left: capacitances, charges and the junctions' voltages.
+#[repr(C)]
 pub struct Charges {
     pub cgs_eval: f64,
     pub cgd_eval: f64,

@@ -13,11 +13,7 @@ use Rattle.device.specs.declared.Given.{Given}
 use Rattle.device.specs.declared.Discretisation.{Discretisation}
 use Rattle.device.specs.declared.Stage.{Stage}
 use Rattle.device.specs.declared.Card.{Card}
-use Rattle.device.specs.declared.Geometry.{Geometry}
-use Rattle.device.specs.declared.Scaled.{Scaled}
 use Rattle.device.specs.declared.Terminals.{Terminals}
-use Rattle.device.specs.declared.OperatingPoint.{OperatingPoint}
-use Rattle.device.specs.declared.Charges.{Charges}
 use Rattle.device.specs.declared.ChargeHistory.{ChargeHistory}
 use Rattle.device.specs.declared.Histories.{Histories}
 use Rattle.device.specs.declared.Mosfet1.{Mosfet1}
@@ -29,16 +25,12 @@ use Rattle.record.specs.declared.NodeRecord.{NodeRecord}
 use Rattle.record.specs.declared.GivenRecord.{GivenRecord}
 use Rattle.record.specs.declared.MethodRecord.{MethodRecord}
 use Rattle.record.specs.declared.CardRecord.{CardRecord}
-use Rattle.record.specs.declared.GeometryRecord.{GeometryRecord}
-use Rattle.record.specs.declared.ScaledRecord.{ScaledRecord}
 use Rattle.record.specs.declared.TerminalsRecord.{TerminalsRecord}
-use Rattle.record.specs.declared.PointRecord.{PointRecord}
-use Rattle.record.specs.declared.ChargesRecord.{ChargesRecord}
 use Rattle.record.specs.declared.HistoryRecord.{HistoryRecord}
 use Rattle.record.specs.declared.HistoriesRecord.{HistoriesRecord}
 use Rattle.record.specs.declared.DeviceRecord.{DeviceRecord}
-use Rattle.record.specs.Records.{stageTag, nodeRecord, givenRecord, methodRecord, cardRecord, geometryRecord, scaledRecord, terminalsRecord, pointRecord, chargesRecord, historyRecord, historiesRecord, deviceRecord}
-use Rattle.from_record.specs.Devices.{nodeFrom, givenFrom, methodFrom, stageFrom, cardFrom, geometryFrom, scaledFrom, terminalsFrom, pointFrom, chargesFrom, historyFrom, historiesFrom, deviceFrom}
+use Rattle.record.specs.Records.{stageTag, nodeRecord, givenRecord, methodRecord, cardRecord, terminalsRecord, historyRecord, historiesRecord, deviceRecord}
+use Rattle.from_record.specs.Devices.{nodeFrom, givenFrom, methodFrom, stageFrom, cardFrom, terminalsFrom, historyFrom, historiesFrom, deviceFrom}
 use Rattle.from_record.specs.Tags.{goodTerminals, goodHistories, goodStage, goodTags, plainNode, plainGiven, plainMethod, plainCard, plainTerminals, plainHistory, plainHistories, plainDevice}
 
 -- ---- from a device to its record and back
@@ -130,33 +122,17 @@ histories-back r = λ i.
       «bd_hist» = history-back (r .«bd_hist») i;
     }
 
-geometry-back : (r : Geometry) → geometryFrom (geometryRecord r) ≡ r
-unfolding geometryFrom geometryRecord
-geometry-back r = refl
-
-scaled-back : (r : Scaled) → scaledFrom (scaledRecord r) ≡ r
-unfolding scaledFrom scaledRecord
-scaled-back r = refl
-
-point-back : (r : OperatingPoint) → pointFrom (pointRecord r) ≡ r
-unfolding pointFrom pointRecord
-point-back r = refl
-
-charges-back : (r : Charges) → chargesFrom (chargesRecord r) ≡ r
-unfolding chargesFrom chargesRecord
-charges-back r = refl
-
 -- every device comes back from its record
 pub device-back : (d : Mosfet1) → deviceFrom (deviceRecord d) ≡ d
 unfolding deviceFrom deviceRecord
 device-back d = λ i.
     record {
       card = card-back (d .card) i;
-      geometry = geometry-back (d .geometry) i;
-      scaled = scaled-back (d .scaled) i;
+      geometry = d .geometry;
+      scaled = d .scaled;
       terminals = terminals-back (d .terminals) i;
-      point = point-back (d .point) i;
-      charges = charges-back (d .charges) i;
+      point = d .point;
+      charges = d .charges;
       histories = histories-back (d .histories) i;
       disc = method-back (d .disc) i;
       stage = stage-back (d .stage) i;
@@ -316,22 +292,6 @@ histories-plain r h =
       «bd_hist» = history-plain (r .«bd_hist») (k .1 .1 .1 .1) i;
     }
 
-geometry-plain : (r : GeometryRecord) → geometryRecord (geometryFrom r) ≡ r
-unfolding geometryFrom geometryRecord
-geometry-plain r = refl
-
-scaled-plain : (r : ScaledRecord) → scaledRecord (scaledFrom r) ≡ r
-unfolding scaledFrom scaledRecord
-scaled-plain r = refl
-
-point-plain : (r : PointRecord) → pointRecord (pointFrom r) ≡ r
-unfolding pointFrom pointRecord
-point-plain r = refl
-
-charges-plain : (r : ChargesRecord) → chargesRecord (chargesFrom r) ≡ r
-unfolding chargesFrom chargesRecord
-charges-plain r = refl
-
 -- every record with known tags comes back from its device, its unused fields at 0
 pub record-back : (r : DeviceRecord) → goodTags r ≡ true → deviceRecord (deviceFrom r) ≡ plainDevice r
 unfolding goodTags deviceFrom deviceRecord plainDevice
@@ -340,11 +300,11 @@ record-back r h =
     λ i.
     record {
       card = card-plain (r .card) (k .0) (k .1 .0) i;
-      geometry = geometry-plain (r .geometry) i;
-      scaled = scaled-plain (r .scaled) i;
+      geometry = r .geometry;
+      scaled = r .scaled;
       terminals = terminals-plain (r .terminals) (k .1 .1 .1 .0) i;
-      point = point-plain (r .point) i;
-      charges = charges-plain (r .charges) i;
+      point = r .point;
+      charges = r .charges;
       histories = histories-plain (r .histories) (k .1 .1 .1 .1) i;
       method = method-plain (r .method .tag) (r .method .h) (r .method .«h_prev») (k .1 .1 .0) i;
       stage = stage-plain (r .stage) (second ((leb (r .card .«rd_card» .tag) 1) && (leb (r .card .«rs_card» .tag) 1) && (leb (r .method .tag) 3) && (goodTerminals (r .terminals)) && (goodHistories (r .histories))) (goodStage (r .stage)) h) i;

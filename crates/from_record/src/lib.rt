@@ -13,21 +13,17 @@ use device::Scaled;
 use device::Stage;
 use device::Terminals;
 use record::CardRecord;
-use record::ChargesRecord;
 use record::DeviceRecord;
-use record::GeometryRecord;
 use record::GivenRecord;
 use record::HistoriesRecord;
 use record::HistoryRecord;
 use record::MethodRecord;
 use record::NodeRecord;
-use record::PointRecord;
-use record::ScaledRecord;
 use record::TerminalsRecord;
 use temperature::Kelvin;
 ghost use mathlib.Core.Path.{_≡_};
 ghost use lib.Dec.{leb};
-ghost use Rattle.from_record.specs.Devices.{nodeFrom, givenFrom, methodFrom, stageFrom, cardFrom, geometryFrom, scaledFrom, terminalsFrom, pointFrom, chargesFrom, historyFrom, historiesFrom, deviceFrom};
+ghost use Rattle.from_record.specs.Devices.{nodeFrom, givenFrom, methodFrom, stageFrom, cardFrom, terminalsFrom, historyFrom, historiesFrom, deviceFrom};
 ghost use Rattle.from_record.specs.Tags.{goodTerminals, goodHistories, goodStage, goodTags};
 
 pub fn node_from(r: NodeRecord) -> NodeId
@@ -121,48 +117,6 @@ fn card_from(r: CardRecord) -> Card
     }
 }
 
-fn geometry_from(r: GeometryRecord) -> Geometry
-    ensures { λ g. ⌜ g ≡ geometryFrom r ⌝ }
-{
-    Geometry {
-        rd: r.rd,
-        rs: r.rs,
-        nrd: r.nrd,
-        nrs: r.nrs,
-        isat_bs: r.isat_bs,
-        isat_bd: r.isat_bd,
-        w: r.w,
-        l: r.l,
-        w_over_l: r.w_over_l,
-        as_: r.as_,
-        ad: r.ad,
-        ps: r.ps,
-        pd: r.pd,
-        cgs_ov: r.cgs_ov,
-        cgd_ov: r.cgd_ov,
-        cgb_ov: r.cgb_ov,
-        cox_wl: r.cox_wl,
-        cbs_bot: r.cbs_bot,
-        cbs_sw: r.cbs_sw,
-        cbd_bot: r.cbd_bot,
-        cbd_sw: r.cbd_sw,
-    }
-}
-
-fn scaled_from(r: ScaledRecord) -> Scaled
-    ensures { λ s. ⌜ s ≡ scaledFrom r ⌝ }
-{
-    Scaled {
-        isat_t_factor: r.isat_t_factor,
-        pb_t: r.pb_t,
-        cj_t_factor: r.cj_t_factor,
-        cjsw_t_factor: r.cjsw_t_factor,
-        vto_t: r.vto_t,
-        kp_t: r.kp_t,
-        phi_t: r.phi_t,
-    }
-}
-
 fn terminals_from(r: TerminalsRecord) -> Terminals
     ensures { λ t. ⌜ t ≡ terminalsFrom r ⌝ }
 {
@@ -173,43 +127,6 @@ fn terminals_from(r: TerminalsRecord) -> Terminals
         gate: node_from(r.gate),
         source: node_from(r.source),
         bulk: node_from(r.bulk),
-    }
-}
-
-fn point_from(r: PointRecord) -> OperatingPoint
-    ensures { λ p. ⌜ p ≡ pointFrom r ⌝ }
-{
-    OperatingPoint {
-        ids_eval: r.ids_eval,
-        gbs: r.gbs,
-        gbd: r.gbd,
-        ibs_eq: r.ibs_eq,
-        ibd_eq: r.ibd_eq,
-        gm: r.gm,
-        gds: r.gds,
-        gmbs: r.gmbs,
-        jeq: r.jeq,
-        vgs_eff_prev: r.vgs_eff_prev,
-        vds_eff_prev: r.vds_eff_prev,
-    }
-}
-
-fn charges_from(r: ChargesRecord) -> Charges
-    ensures { λ q. ⌜ q ≡ chargesFrom r ⌝ }
-{
-    Charges {
-        cgs_eval: r.cgs_eval,
-        cgd_eval: r.cgd_eval,
-        cgb_eval: r.cgb_eval,
-        q_gs_eval: r.q_gs_eval,
-        q_gd_eval: r.q_gd_eval,
-        q_gb_eval: r.q_gb_eval,
-        vbs_eval: r.vbs_eval,
-        vbd_eval: r.vbd_eval,
-        cbs_eval: r.cbs_eval,
-        cbd_eval: r.cbd_eval,
-        q_bs_eval: r.q_bs_eval,
-        q_bd_eval: r.q_bd_eval,
     }
 }
 
@@ -235,16 +152,100 @@ fn histories_from(r: HistoriesRecord) -> Histories
     }
 }
 
+// ---- the parts that are the device's own structs, copied field by field: with a copy of a whole part the compiler keeps the whole
+// record in memory, and an evaluation takes half as many instructions again
+
+fn geometry_copy(g: Geometry) -> Geometry
+    ensures { λ r. ⌜ r ≡ g ⌝ }
+{
+    Geometry {
+        rd: g.rd,
+        rs: g.rs,
+        nrd: g.nrd,
+        nrs: g.nrs,
+        isat_bs: g.isat_bs,
+        isat_bd: g.isat_bd,
+        w: g.w,
+        l: g.l,
+        w_over_l: g.w_over_l,
+        as_: g.as_,
+        ad: g.ad,
+        ps: g.ps,
+        pd: g.pd,
+        cgs_ov: g.cgs_ov,
+        cgd_ov: g.cgd_ov,
+        cgb_ov: g.cgb_ov,
+        cox_wl: g.cox_wl,
+        cbs_bot: g.cbs_bot,
+        cbs_sw: g.cbs_sw,
+        cbd_bot: g.cbd_bot,
+        cbd_sw: g.cbd_sw,
+    }
+}
+
+fn scaled_copy(s: Scaled) -> Scaled
+    ensures { λ r. ⌜ r ≡ s ⌝ }
+{
+    Scaled {
+        isat_t_factor: s.isat_t_factor,
+        pb_t: s.pb_t,
+        cj_t_factor: s.cj_t_factor,
+        cjsw_t_factor: s.cjsw_t_factor,
+        vto_t: s.vto_t,
+        kp_t: s.kp_t,
+        phi_t: s.phi_t,
+    }
+}
+
+fn point_copy(p: OperatingPoint) -> OperatingPoint
+    ensures { λ r. ⌜ r ≡ p ⌝ }
+{
+    OperatingPoint {
+        ids_eval: p.ids_eval,
+        gbs: p.gbs,
+        gbd: p.gbd,
+        ibs_eq: p.ibs_eq,
+        ibd_eq: p.ibd_eq,
+        gm: p.gm,
+        gds: p.gds,
+        gmbs: p.gmbs,
+        jeq: p.jeq,
+        vgs_eff_prev: p.vgs_eff_prev,
+        vds_eff_prev: p.vds_eff_prev,
+    }
+}
+
+fn charges_copy(q: Charges) -> Charges
+    ensures { λ r. ⌜ r ≡ q ⌝ }
+{
+    Charges {
+        cgs_eval: q.cgs_eval,
+        cgd_eval: q.cgd_eval,
+        cgb_eval: q.cgb_eval,
+        q_gs_eval: q.q_gs_eval,
+        q_gd_eval: q.q_gd_eval,
+        q_gb_eval: q.q_gb_eval,
+        vbs_eval: q.vbs_eval,
+        vbd_eval: q.vbd_eval,
+        cbs_eval: q.cbs_eval,
+        cbd_eval: q.cbd_eval,
+        q_bs_eval: q.q_bs_eval,
+        q_bd_eval: q.q_bd_eval,
+    }
+}
+
+// ---- the device
+
 pub fn device_from(r: DeviceRecord) -> Mosfet1
     ensures { λ d. ⌜ d ≡ deviceFrom r ⌝ }
 {
     Mosfet1 {
         card: card_from(r.card),
-        geometry: geometry_from(r.geometry),
-        scaled: scaled_from(r.scaled),
+        geometry: geometry_copy(r.geometry),
+        scaled: scaled_copy(r.scaled),
         terminals: terminals_from(r.terminals),
-        point: point_from(r.point),
-        charges: charges_from(r.charges),
+        point: point_copy(r.point),
+        charges: charges_copy(r.charges),
         histories: histories_from(r.histories),
         disc: method_from(r.method),
         stage: stage_from(r.stage),

@@ -6,11 +6,7 @@ use Rattle.device.specs.declared.Given.{Given}
 use Rattle.device.specs.declared.Discretisation.{Discretisation}
 use Rattle.device.specs.declared.Stage.{Stage}
 use Rattle.device.specs.declared.Card.{Card}
-use Rattle.device.specs.declared.Geometry.{Geometry}
-use Rattle.device.specs.declared.Scaled.{Scaled}
 use Rattle.device.specs.declared.Terminals.{Terminals}
-use Rattle.device.specs.declared.OperatingPoint.{OperatingPoint}
-use Rattle.device.specs.declared.Charges.{Charges}
 use Rattle.device.specs.declared.ChargeHistory.{ChargeHistory}
 use Rattle.device.specs.declared.Histories.{Histories}
 use Rattle.device.specs.declared.Mosfet1.{Mosfet1}
@@ -22,11 +18,7 @@ use Rattle.record.specs.declared.NodeRecord.{NodeRecord}
 use Rattle.record.specs.declared.GivenRecord.{GivenRecord}
 use Rattle.record.specs.declared.MethodRecord.{MethodRecord}
 use Rattle.record.specs.declared.CardRecord.{CardRecord}
-use Rattle.record.specs.declared.GeometryRecord.{GeometryRecord}
-use Rattle.record.specs.declared.ScaledRecord.{ScaledRecord}
 use Rattle.record.specs.declared.TerminalsRecord.{TerminalsRecord}
-use Rattle.record.specs.declared.PointRecord.{PointRecord}
-use Rattle.record.specs.declared.ChargesRecord.{ChargesRecord}
 use Rattle.record.specs.declared.HistoryRecord.{HistoryRecord}
 use Rattle.record.specs.declared.HistoriesRecord.{HistoriesRecord}
 use Rattle.record.specs.declared.DeviceRecord.{DeviceRecord}
@@ -82,44 +74,6 @@ cardRecord card =
       fc = card .fc;
     }
 
-unfoldable pub geometryRecord : Geometry → GeometryRecord
-geometryRecord g =
-    record {
-      rd = g .rd;
-      rs = g .rs;
-      nrd = g .nrd;
-      nrs = g .nrs;
-      «isat_bs» = g .«isat_bs»;
-      «isat_bd» = g .«isat_bd»;
-      w = g .w;
-      l = g .l;
-      «w_over_l» = g .«w_over_l»;
-      «as_» = g .«as_»;
-      ad = g .ad;
-      ps = g .ps;
-      pd = g .pd;
-      «cgs_ov» = g .«cgs_ov»;
-      «cgd_ov» = g .«cgd_ov»;
-      «cgb_ov» = g .«cgb_ov»;
-      «cox_wl» = g .«cox_wl»;
-      «cbs_bot» = g .«cbs_bot»;
-      «cbs_sw» = g .«cbs_sw»;
-      «cbd_bot» = g .«cbd_bot»;
-      «cbd_sw» = g .«cbd_sw»;
-    }
-
-unfoldable pub scaledRecord : Scaled → ScaledRecord
-scaledRecord s =
-    record {
-      «isat_t_factor» = s .«isat_t_factor»;
-      «pb_t» = s .«pb_t»;
-      «cj_t_factor» = s .«cj_t_factor»;
-      «cjsw_t_factor» = s .«cjsw_t_factor»;
-      «vto_t» = s .«vto_t»;
-      «kp_t» = s .«kp_t»;
-      «phi_t» = s .«phi_t»;
-    }
-
 unfoldable pub terminalsRecord : Terminals → TerminalsRecord
 terminalsRecord t =
     record {
@@ -129,39 +83,6 @@ terminalsRecord t =
       gate = nodeRecord (t .gate);
       source = nodeRecord (t .source);
       bulk = nodeRecord (t .bulk);
-    }
-
-unfoldable pub pointRecord : OperatingPoint → PointRecord
-pointRecord p =
-    record {
-      «ids_eval» = p .«ids_eval»;
-      gbs = p .gbs;
-      gbd = p .gbd;
-      «ibs_eq» = p .«ibs_eq»;
-      «ibd_eq» = p .«ibd_eq»;
-      gm = p .gm;
-      gds = p .gds;
-      gmbs = p .gmbs;
-      jeq = p .jeq;
-      «vgs_eff_prev» = p .«vgs_eff_prev»;
-      «vds_eff_prev» = p .«vds_eff_prev»;
-    }
-
-unfoldable pub chargesRecord : Charges → ChargesRecord
-chargesRecord q =
-    record {
-      «cgs_eval» = q .«cgs_eval»;
-      «cgd_eval» = q .«cgd_eval»;
-      «cgb_eval» = q .«cgb_eval»;
-      «q_gs_eval» = q .«q_gs_eval»;
-      «q_gd_eval» = q .«q_gd_eval»;
-      «q_gb_eval» = q .«q_gb_eval»;
-      «vbs_eval» = q .«vbs_eval»;
-      «vbd_eval» = q .«vbd_eval»;
-      «cbs_eval» = q .«cbs_eval»;
-      «cbd_eval» = q .«cbd_eval»;
-      «q_bs_eval» = q .«q_bs_eval»;
-      «q_bd_eval» = q .«q_bd_eval»;
     }
 
 unfoldable pub historyRecord : ChargeHistory → HistoryRecord
@@ -186,11 +107,11 @@ unfoldable pub deviceRecord : Mosfet1 → DeviceRecord
 deviceRecord d =
     record {
       card = cardRecord (d .card);
-      geometry = geometryRecord (d .geometry);
-      scaled = scaledRecord (d .scaled);
+      geometry = d .geometry;
+      scaled = d .scaled;
       terminals = terminalsRecord (d .terminals);
-      point = pointRecord (d .point);
-      charges = chargesRecord (d .charges);
+      point = d .point;
+      charges = d .charges;
       histories = historiesRecord (d .histories);
       method = methodRecord (d .disc);
       stage = stageTag (d .stage);

@@ -1,5 +1,6 @@
 // The device as a record for C: numbers alone, every field of eight bytes, so that there is no padding and records can be
-// copied and compared byte by byte. Choices are numbers, their tags; a record whose tags are all known stands for one device.
+// copied and compared byte by byte. Choices are numbers, their tags; a record whose tags are all known stands for one device. Parts
+// without a choice are the device's own structs.
 use device::Card;
 use device::ChargeHistory;
 use device::Charges;
@@ -13,9 +14,8 @@ use device::OperatingPoint;
 use device::Scaled;
 use device::Stage;
 use device::Terminals;
-use temperature::Kelvin;
 ghost use mathlib.Core.Path.{_≡_};
-ghost use Rattle.record.specs.Records.{stageTag, nodeRecord, givenRecord, methodRecord, cardRecord, geometryRecord, scaledRecord, terminalsRecord, pointRecord, chargesRecord, historyRecord, historiesRecord, deviceRecord};
+ghost use Rattle.record.specs.Records.{stageTag, nodeRecord, givenRecord, methodRecord, cardRecord, terminalsRecord, historyRecord, historiesRecord, deviceRecord};
 
 // A node: tag 0 is ground, tag 1 the row that `index` names.
 #[repr(C)]
@@ -68,44 +68,6 @@ pub struct CardRecord {
     pub fc: f64,
 }
 
-// The instance's geometry.
-#[repr(C)]
-pub struct GeometryRecord {
-    pub rd: f64,
-    pub rs: f64,
-    pub nrd: f64,
-    pub nrs: f64,
-    pub isat_bs: f64,
-    pub isat_bd: f64,
-    pub w: f64,
-    pub l: f64,
-    pub w_over_l: f64,
-    pub as_: f64,
-    pub ad: f64,
-    pub ps: f64,
-    pub pd: f64,
-    pub cgs_ov: f64,
-    pub cgd_ov: f64,
-    pub cgb_ov: f64,
-    pub cox_wl: f64,
-    pub cbs_bot: f64,
-    pub cbs_sw: f64,
-    pub cbd_bot: f64,
-    pub cbd_sw: f64,
-}
-
-// The parameters at the scaling's temperature.
-#[repr(C)]
-pub struct ScaledRecord {
-    pub isat_t_factor: f64,
-    pub pb_t: f64,
-    pub cj_t_factor: f64,
-    pub cjsw_t_factor: f64,
-    pub vto_t: f64,
-    pub kp_t: f64,
-    pub phi_t: f64,
-}
-
 // The six nodes.
 #[repr(C)]
 pub struct TerminalsRecord {
@@ -115,39 +77,6 @@ pub struct TerminalsRecord {
     pub gate: NodeRecord,
     pub source: NodeRecord,
     pub bulk: NodeRecord,
-}
-
-// What the last evaluation left.
-#[repr(C)]
-pub struct PointRecord {
-    pub ids_eval: f64,
-    pub gbs: f64,
-    pub gbd: f64,
-    pub ibs_eq: f64,
-    pub ibd_eq: f64,
-    pub gm: f64,
-    pub gds: f64,
-    pub gmbs: f64,
-    pub jeq: f64,
-    pub vgs_eff_prev: f64,
-    pub vds_eff_prev: f64,
-}
-
-// What the last transient evaluation left.
-#[repr(C)]
-pub struct ChargesRecord {
-    pub cgs_eval: f64,
-    pub cgd_eval: f64,
-    pub cgb_eval: f64,
-    pub q_gs_eval: f64,
-    pub q_gd_eval: f64,
-    pub q_gb_eval: f64,
-    pub vbs_eval: f64,
-    pub vbd_eval: f64,
-    pub cbs_eval: f64,
-    pub cbd_eval: f64,
-    pub q_bs_eval: f64,
-    pub q_bd_eval: f64,
 }
 
 // A charge branch's past.
@@ -171,11 +100,11 @@ pub struct HistoriesRecord {
 #[repr(C)]
 pub struct DeviceRecord {
     pub card: CardRecord,
-    pub geometry: GeometryRecord,
-    pub scaled: ScaledRecord,
+    pub geometry: Geometry,
+    pub scaled: Scaled,
     pub terminals: TerminalsRecord,
-    pub point: PointRecord,
-    pub charges: ChargesRecord,
+    pub point: OperatingPoint,
+    pub charges: Charges,
     pub histories: HistoriesRecord,
     pub method: MethodRecord,
     pub stage: u64,
@@ -283,48 +212,6 @@ fn card_record(card: Card) -> CardRecord
     }
 }
 
-fn geometry_record(g: Geometry) -> GeometryRecord
-    ensures { λ r. ⌜ r ≡ geometryRecord g ⌝ }
-{
-    GeometryRecord {
-        rd: g.rd,
-        rs: g.rs,
-        nrd: g.nrd,
-        nrs: g.nrs,
-        isat_bs: g.isat_bs,
-        isat_bd: g.isat_bd,
-        w: g.w,
-        l: g.l,
-        w_over_l: g.w_over_l,
-        as_: g.as_,
-        ad: g.ad,
-        ps: g.ps,
-        pd: g.pd,
-        cgs_ov: g.cgs_ov,
-        cgd_ov: g.cgd_ov,
-        cgb_ov: g.cgb_ov,
-        cox_wl: g.cox_wl,
-        cbs_bot: g.cbs_bot,
-        cbs_sw: g.cbs_sw,
-        cbd_bot: g.cbd_bot,
-        cbd_sw: g.cbd_sw,
-    }
-}
-
-fn scaled_record(s: Scaled) -> ScaledRecord
-    ensures { λ r. ⌜ r ≡ scaledRecord s ⌝ }
-{
-    ScaledRecord {
-        isat_t_factor: s.isat_t_factor,
-        pb_t: s.pb_t,
-        cj_t_factor: s.cj_t_factor,
-        cjsw_t_factor: s.cjsw_t_factor,
-        vto_t: s.vto_t,
-        kp_t: s.kp_t,
-        phi_t: s.phi_t,
-    }
-}
-
 fn terminals_record(t: Terminals) -> TerminalsRecord
     ensures { λ r. ⌜ r ≡ terminalsRecord t ⌝ }
 {
@@ -341,43 +228,6 @@ fn terminals_record(t: Terminals) -> TerminalsRecord
         gate: node_record(gate),
         source: node_record(source),
         bulk: node_record(bulk),
-    }
-}
-
-pub fn point_record(p: OperatingPoint) -> PointRecord
-    ensures { λ r. ⌜ r ≡ pointRecord p ⌝ }
-{
-    PointRecord {
-        ids_eval: p.ids_eval,
-        gbs: p.gbs,
-        gbd: p.gbd,
-        ibs_eq: p.ibs_eq,
-        ibd_eq: p.ibd_eq,
-        gm: p.gm,
-        gds: p.gds,
-        gmbs: p.gmbs,
-        jeq: p.jeq,
-        vgs_eff_prev: p.vgs_eff_prev,
-        vds_eff_prev: p.vds_eff_prev,
-    }
-}
-
-pub fn charges_record(q: Charges) -> ChargesRecord
-    ensures { λ r. ⌜ r ≡ chargesRecord q ⌝ }
-{
-    ChargesRecord {
-        cgs_eval: q.cgs_eval,
-        cgd_eval: q.cgd_eval,
-        cgb_eval: q.cgb_eval,
-        q_gs_eval: q.q_gs_eval,
-        q_gd_eval: q.q_gd_eval,
-        q_gb_eval: q.q_gb_eval,
-        vbs_eval: q.vbs_eval,
-        vbd_eval: q.vbd_eval,
-        cbs_eval: q.cbs_eval,
-        cbd_eval: q.cbd_eval,
-        q_bs_eval: q.q_bs_eval,
-        q_bd_eval: q.q_bd_eval,
     }
 }
 
@@ -404,6 +254,90 @@ pub fn histories_record(h: Histories) -> HistoriesRecord
     }
 }
 
+// ---- the parts that are the device's own structs, copied field by field: with a copy of a whole part the compiler keeps the whole
+// record in memory, and a call before the loop takes 30 to 60 ns more
+
+fn geometry_copy(g: Geometry) -> Geometry
+    ensures { λ r. ⌜ r ≡ g ⌝ }
+{
+    Geometry {
+        rd: g.rd,
+        rs: g.rs,
+        nrd: g.nrd,
+        nrs: g.nrs,
+        isat_bs: g.isat_bs,
+        isat_bd: g.isat_bd,
+        w: g.w,
+        l: g.l,
+        w_over_l: g.w_over_l,
+        as_: g.as_,
+        ad: g.ad,
+        ps: g.ps,
+        pd: g.pd,
+        cgs_ov: g.cgs_ov,
+        cgd_ov: g.cgd_ov,
+        cgb_ov: g.cgb_ov,
+        cox_wl: g.cox_wl,
+        cbs_bot: g.cbs_bot,
+        cbs_sw: g.cbs_sw,
+        cbd_bot: g.cbd_bot,
+        cbd_sw: g.cbd_sw,
+    }
+}
+
+fn scaled_copy(s: Scaled) -> Scaled
+    ensures { λ r. ⌜ r ≡ s ⌝ }
+{
+    Scaled {
+        isat_t_factor: s.isat_t_factor,
+        pb_t: s.pb_t,
+        cj_t_factor: s.cj_t_factor,
+        cjsw_t_factor: s.cjsw_t_factor,
+        vto_t: s.vto_t,
+        kp_t: s.kp_t,
+        phi_t: s.phi_t,
+    }
+}
+
+fn point_copy(p: OperatingPoint) -> OperatingPoint
+    ensures { λ r. ⌜ r ≡ p ⌝ }
+{
+    OperatingPoint {
+        ids_eval: p.ids_eval,
+        gbs: p.gbs,
+        gbd: p.gbd,
+        ibs_eq: p.ibs_eq,
+        ibd_eq: p.ibd_eq,
+        gm: p.gm,
+        gds: p.gds,
+        gmbs: p.gmbs,
+        jeq: p.jeq,
+        vgs_eff_prev: p.vgs_eff_prev,
+        vds_eff_prev: p.vds_eff_prev,
+    }
+}
+
+fn charges_copy(q: Charges) -> Charges
+    ensures { λ r. ⌜ r ≡ q ⌝ }
+{
+    Charges {
+        cgs_eval: q.cgs_eval,
+        cgd_eval: q.cgd_eval,
+        cgb_eval: q.cgb_eval,
+        q_gs_eval: q.q_gs_eval,
+        q_gd_eval: q.q_gd_eval,
+        q_gb_eval: q.q_gb_eval,
+        vbs_eval: q.vbs_eval,
+        vbd_eval: q.vbd_eval,
+        cbs_eval: q.cbs_eval,
+        cbd_eval: q.cbd_eval,
+        q_bs_eval: q.q_bs_eval,
+        q_bd_eval: q.q_bd_eval,
+    }
+}
+
+// ---- the device
+
 pub fn device_record(d: Mosfet1) -> DeviceRecord
     ensures { λ r. ⌜ r ≡ deviceRecord d ⌝ }
 {
@@ -411,11 +345,11 @@ pub fn device_record(d: Mosfet1) -> DeviceRecord
     let stage = d.stage;
     DeviceRecord {
         card: card_record(d.card),
-        geometry: geometry_record(d.geometry),
-        scaled: scaled_record(d.scaled),
+        geometry: geometry_copy(d.geometry),
+        scaled: scaled_copy(d.scaled),
         terminals: terminals_record(d.terminals),
-        point: point_record(d.point),
-        charges: charges_record(d.charges),
+        point: point_copy(d.point),
+        charges: charges_copy(d.charges),
         histories: histories_record(d.histories),
         method: method_record(disc),
         stage: stage_tag(stage),

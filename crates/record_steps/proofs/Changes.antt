@@ -15,10 +15,9 @@ use Rattle.mosfet1.specs.declared.steps.Evaluated.{Evaluated}
 use Rattle.rows.specs.Rows.{voltagesOf, evalRows}
 use Rattle.device.proofs.Rows.{unless-either}
 use Rattle.model.specs.Calls.{evalOf, commitOf}
-use Rattle.record.specs.Records.{chargesRecord}
 use Rattle.record.specs.declared.DeviceOutcome.{DeviceOutcome}
 use Rattle.record.specs.declared.DeviceRecord.{DeviceRecord}
-use Rattle.from_record.specs.Devices.{chargesFrom, deviceFrom}
+use Rattle.from_record.specs.Devices.{deviceFrom}
 use Rattle.from_record.specs.Tags.{goodTags}
 use Rattle.record_steps.specs.declared.ConditionsRecord.{ConditionsRecord}
 use Rattle.record_steps.specs.declared.EvaluationReply.{EvaluationReply}
@@ -41,9 +40,9 @@ made-either r false c d o p h k = k
 Made : DeviceRecord → Bool → Outcome Evaluated → Type 0
 Made r t a = outcomeFrom r (evaluationGiven t a) ≡ evaluationOutcome r a
 
--- without the transient flag the device's charges are those of the record, and come back from it as they were
+-- without the transient flag the device's charges are those of the record
 made-done : (r : DeviceRecord) (v : Voltages) (t : Bool) (k : Conditions) → Made r t (done (evaluatedOf (deviceFrom r) v t k))
-unfolding Made outcomeFrom evaluationGiven evaluatedChanges directCurrentGiven changedRecord directCurrentRecord evaluationOutcome evaluatedOutcome evaluatedRecord evaluatedOf evaluatedFromOf evaluatedChargesOf deviceFrom chargesFrom chargesRecord
+unfolding Made outcomeFrom evaluationGiven evaluatedChanges directCurrentGiven changedRecord directCurrentRecord evaluationOutcome evaluatedOutcome evaluatedRecord evaluatedOf evaluatedFromOf evaluatedChargesOf deviceFrom
 made-done r v true k = refl
 made-done r v false k = refl
 

@@ -15,9 +15,9 @@ use Rattle.mosfet1.specs.Steps.{evaluatedFromOf, evaluatedOf, committedOf}
 use Rattle.mosfet1.specs.declared.steps.Conditions.{Conditions}
 use Rattle.mosfet1.specs.declared.steps.Evaluated.{Evaluated}
 use Rattle.model.specs.Calls.{evalOf, commitOf}
-use Rattle.record.specs.Records.{pointRecord, chargesRecord, deviceRecord}
+use Rattle.record.specs.Records.{deviceRecord}
 use Rattle.record.specs.declared.DeviceRecord.{DeviceRecord}
-use Rattle.from_record.specs.Devices.{pointFrom, chargesFrom, deviceFrom}
+use Rattle.from_record.specs.Devices.{deviceFrom}
 use Rattle.from_record.specs.Tags.{goodTerminals, goodHistories, goodStage, goodTags}
 use Rattle.from_record.proofs.ThereAndBack.{device-back, device-tags}
 use Rattle.record_steps.specs.declared.ConditionsRecord.{ConditionsRecord}
@@ -26,7 +26,7 @@ use Rattle.record_steps.specs.Steps.{EvaluationOutcome, goodConditions, 
 -- ---- the device
 
 evaluated-back : (r : DeviceRecord) (v : Voltages) (t : Bool) (k : Conditions) → deviceFrom (evaluatedRecord r (evaluatedOf (deviceFrom r) v t k .device)) ≡ evaluatedOf (deviceFrom r) v t k .device
-unfolding evaluatedRecord evaluatedOf evaluatedFromOf deviceFrom deviceRecord pointFrom pointRecord chargesFrom chargesRecord
+unfolding evaluatedRecord evaluatedOf evaluatedFromOf deviceFrom deviceRecord
 evaluated-back r v t k =
     let d = evaluatedOf (deviceFrom r) v t k .device in
     let back = device-back d in
@@ -44,7 +44,7 @@ evaluated-back r v t k =
     }
 
 committed-back : (r : DeviceRecord) (v : Voltages) → deviceFrom (committedRecord r (committedOf (deviceFrom r) v)) ≡ committedOf (deviceFrom r) v
-unfolding committedRecord committedOf deviceFrom deviceRecord pointFrom pointRecord
+unfolding committedRecord committedOf deviceFrom deviceRecord
 committed-back r v =
     let d = committedOf (deviceFrom r) v in
     let back = device-back d in

@@ -14,12 +14,11 @@ use Rattle.rows.specs.Rows.{voltagesOf}
 use Rattle.model.specs.Calls.{evalOf, commitOf}
 use Rattle.device.specs.Refusals.{Outcome, done, refused}
 use Rattle.device.specs.declared.Mosfet1.{Mosfet1}
-use Rattle.record.specs.Records.{pointRecord, chargesRecord, historiesRecord, methodRecord, stageTag}
+use Rattle.record.specs.Records.{historiesRecord, methodRecord, stageTag}
 use Rattle.record.specs.declared.DeviceOutcome.{DeviceOutcome}
 use Rattle.record.specs.declared.DeviceRecord.{DeviceRecord}
 use Rattle.from_record.specs.Devices.{deviceFrom, methodFrom}
 use Rattle.from_record.specs.Tags.{goodTags}
-use Rattle.record_steps.specs.declared.AnswerRecord.{AnswerRecord}
 use Rattle.record_steps.specs.declared.ConditionsRecord.{ConditionsRecord}
 use Rattle.record_steps.specs.declared.EvaluationReply.{EvaluationReply}
 use Rattle.record_steps.specs.declared.EvaluationChanges.{EvaluationChanges}
@@ -42,14 +41,10 @@ conditionsFrom k =
       method = methodFrom (k .method);
     }
 
-unfoldable pub answerRecord : Answer → AnswerRecord
-answerRecord a =
-    record { vgs = a .vgs; vds = a .vds; vth = a .vth; ids = a .ids; gm = a .gm; gds = a .gds; gmbs = a .gmbs }
-
 -- what an evaluation is in all: the number of the refusal, what is answered, and the record afterwards
 pub record EvaluationOutcome : Type 0 where
   pub refusal : ℕ
-  pub answer : AnswerRecord
+  pub answer : Answer
   pub device : DeviceRecord
 
 -- a refusal carries its number; the answer is zeros, the device the one handed in
@@ -67,15 +62,15 @@ evaluatedRecord r d =
       geometry = r .geometry;
       scaled = r .scaled;
       terminals = r .terminals;
-      point = pointRecord (d .point);
-      charges = chargesRecord (d .charges);
+      point = d .point;
+      charges = d .charges;
       histories = r .histories;
       method = methodRecord (d .disc);
       stage = stageTag (d .stage);
     }
 
 unfoldable pub evaluatedOutcome : DeviceRecord → Evaluated → EvaluationOutcome
-evaluatedOutcome r e = record { refusal = 0; answer = answerRecord (e .answer); device = evaluatedRecord r (e .device) }
+evaluatedOutcome r e = record { refusal = 0; answer = e .answer; device = evaluatedRecord r (e .device) }
 
 unfoldable pub evaluationOutcome : DeviceRecord → Outcome Evaluated → EvaluationOutcome
 evaluationOutcome r (done e) = evaluatedOutcome r e
@@ -132,9 +127,9 @@ outcomeFrom r (Refusal y) = record { refusal = y .refusal; answer = y .answer; d
 unfoldable pub evaluatedChanges : Evaluated → EvaluationChanges
 evaluatedChanges e =
     record {
-      reply = record { refusal = 0; answer = answerRecord (e .answer) };
-      point = pointRecord (e .device .point);
-      charges = chargesRecord (e .device .charges);
+      reply = record { refusal = 0; answer = e .answer };
+      point = e .device .point;
+      charges = e .device .charges;
       method = methodRecord (e .device .disc);
       stage = stageTag (e .device .stage);
     }
@@ -142,8 +137,8 @@ evaluatedChanges e =
 unfoldable pub directCurrentGiven : Evaluated → DirectCurrentChanges
 directCurrentGiven e =
     record {
-      reply = record { refusal = 0; answer = answerRecord (e .answer) };
-      point = pointRecord (e .device .point);
+      reply = record { refusal = 0; answer = e .answer };
+      point = e .device .point;
       method = methodRecord (e .device .disc);
     }
 
@@ -187,7 +182,7 @@ committedRecord r d =
       geometry = r .geometry;
       scaled = r .scaled;
       terminals = r .terminals;
-      point = pointRecord (d .point);
+      point = d .point;
       charges = r .charges;
       histories = historiesRecord (d .histories);
       method = r .method;
@@ -218,7 +213,7 @@ advancedRecord r c =
 
 -- what a commit gives to be stored: the parts that it changes, or, where it is refused, the number alone
 unfoldable pub commitGiven : Outcome Mosfet1 → CommitAnswer
-commitGiven (done e) = CommitAnswer.Changes (record { point = pointRecord (e .point); histories = historiesRecord (e .histories) })
+commitGiven (done e) = CommitAnswer.Changes (record { point = e .point; histories = historiesRecord (e .histories) })
 commitGiven (refused n) = CommitAnswer.Refusal n
 
 unfoldable pub commitRecordOf : DeviceRecord → List Float → CommitAnswer

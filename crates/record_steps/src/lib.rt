@@ -1,19 +1,19 @@
 // Evaluation and commit of a device that is a record.
 use bias::Answer;
+use device::Charges;
 use device::Mosfet1;
+use device::OperatingPoint;
 use model::calls::Commit;
 use model::calls::Evaluation;
 use mosfet1::steps::Conditions;
 use mosfet1::steps::Evaluated;
-use record::ChargesRecord;
 use record::DeviceRecord;
 use record::HistoriesRecord;
 use record::MethodRecord;
-use record::PointRecord;
 use temperature::Kelvin;
 ghost use mathlib.Core.Path.{_≡_};
 ghost use Rattle.model.specs.Calls.{outcomeOfEvaluation, outcomeOfCommit};
-ghost use Rattle.record_steps.specs.Steps.{goodConditions, conditionsFrom, answerRecord, refusedReply, evaluatedChanges, directCurrentGiven, evaluationGiven, chargedOf, withCharges, evaluateOf, commitGiven, commitRecordOf};
+ghost use Rattle.record_steps.specs.Steps.{goodConditions, conditionsFrom, refusedReply, evaluatedChanges, directCurrentGiven, evaluationGiven, chargedOf, withCharges, evaluateOf, commitGiven, commitRecordOf};
 ghost use Rattle.record_steps.specs.declared.ChangesOrRefusal.the-variants.{Changes, DirectCurrent};
 
 // What an evaluation is handed besides the voltages. The limiter and the transient flag are 0 or 1.
@@ -26,30 +26,18 @@ pub struct ConditionsRecord {
     pub method: MethodRecord,
 }
 
-// The kept voltages, flipped; the threshold; the current, not flipped; the conductances, gds with gmin.
-#[repr(C)]
-pub struct AnswerRecord {
-    pub vgs: f64,
-    pub vds: f64,
-    pub vth: f64,
-    pub ids: f64,
-    pub gm: f64,
-    pub gds: f64,
-    pub gmbs: f64,
-}
-
 // What an evaluation answers that changes the record where it lies.
 #[repr(C)]
 pub struct EvaluationReply {
     pub refusal: u64,
-    pub answer: AnswerRecord,
+    pub answer: Answer,
 }
 
 // The reply of an accepted evaluation, and the parts of the record that it changes.
 pub struct EvaluationChanges {
     pub reply: EvaluationReply,
-    pub point: PointRecord,
-    pub charges: ChargesRecord,
+    pub point: OperatingPoint,
+    pub charges: Charges,
     pub method: MethodRecord,
     pub stage: u64,
 }
@@ -57,7 +45,7 @@ pub struct EvaluationChanges {
 // The same without the transient flag: the charges stay as they are, and the stage is known.
 pub struct DirectCurrentChanges {
     pub reply: EvaluationReply,
-    pub point: PointRecord,
+    pub point: OperatingPoint,
     pub method: MethodRecord,
 }
 
@@ -70,7 +58,7 @@ pub enum ChangesOrRefusal {
 
 // The parts of the record that an accepted commit changes.
 pub struct CommitChanges {
-    pub point: PointRecord,
+    pub point: OperatingPoint,
     pub histories: HistoriesRecord,
 }
 
@@ -105,27 +93,13 @@ fn conditions_from(k: ConditionsRecord) -> Conditions
     }
 }
 
-fn answer_record(a: Answer) -> AnswerRecord
-    ensures { λ r. ⌜ r ≡ answerRecord a ⌝ }
-{
-    AnswerRecord {
-        vgs: a.vgs,
-        vds: a.vds,
-        vth: a.vth,
-        ids: a.ids,
-        gm: a.gm,
-        gds: a.gds,
-        gmbs: a.gmbs,
-    }
-}
-
 // A refusal answers zeros.
 fn refused_reply(n: u64) -> EvaluationReply
     ensures { λ y. ⌜ y ≡ refusedReply n ⌝ }
 {
     EvaluationReply {
         refusal: n,
-        answer: AnswerRecord {
+        answer: Answer {
             vgs: 0.0,
             vds: 0.0,
             vth: 0.0,
@@ -141,20 +115,17 @@ fn refused_reply(n: u64) -> EvaluationReply
 fn accepted_evaluation(e: Evaluated) -> ChangesOrRefusal
     ensures { λ c. ⌜ c ≡ Changes (evaluatedChanges e) ⌝ }
 {
-    let a = e.answer;
+    let answer = e.answer;
     let d = e.device;
     let point = d.point;
     let charges = d.charges;
     let disc = d.disc;
     let stage = d.stage;
-    let reply = EvaluationReply {
-        refusal: 0,
-        answer: answer_record(a),
-    };
+    let reply = EvaluationReply { refusal: 0, answer };
     let changes = EvaluationChanges {
         reply,
-        point: record::point_record(point),
-        charges: record::charges_record(charges),
+        point,
+        charges,
         method: record::method_record(disc),
         stage: record::stage_tag(stage),
     };
@@ -178,17 +149,14 @@ fn accepted_transient(e: Evaluated, d: Mosfet1, x: &[f64]) -> ChangesOrRefusal
 fn accepted_direct_current(e: Evaluated) -> ChangesOrRefusal
     ensures { λ c. ⌜ c ≡ DirectCurrent (directCurrentGiven e) ⌝ }
 {
-    let a = e.answer;
+    let answer = e.answer;
     let d = e.device;
     let point = d.point;
     let disc = d.disc;
-    let reply = EvaluationReply {
-        refusal: 0,
-        answer: answer_record(a),
-    };
+    let reply = EvaluationReply { refusal: 0, answer };
     let changes = DirectCurrentChanges {
         reply,
-        point: record::point_record(point),
+        point,
         method: record::method_record(disc),
     };
     ChangesOrRefusal::DirectCurrent(changes)
@@ -235,7 +203,7 @@ fn commit_changes(a: Commit) -> CommitAnswer
             let point = e.point;
             let histories = e.histories;
             let changes = CommitChanges {
-                point: record::point_record(point),
+                point,
                 histories: record::histories_record(histories),
             };
             CommitAnswer::Changes(changes)

@@ -56,8 +56,8 @@ use Rattle.record_steps.specs.Steps.{commitCall, commitRecordOf, commitOutcomeF
 use Rattle.record_steps.proofs.Changes.{commit-outcome, number-of-commit, device-of-commit, number-of-refused-commit, device-of-refused-commit}
 use Rattle.record.proofs.DeviceRecord as T
 use Rattle.record.proofs.DeviceRecord.Laws as T′
-use Rattle.record.proofs.PointRecord as P
-use Rattle.record.proofs.PointRecord.Laws as P′
+use Rattle.device.proofs.OperatingPoint as P
+use Rattle.device.proofs.OperatingPoint.Laws as P′
 use Rattle.record.proofs.HistoriesRecord as Q
 use Rattle.record.proofs.HistoriesRecord.Laws as Q′
 use Rattle.record_steps.proofs.CommitAnswer as Z

@@ -57,10 +57,10 @@ use Rattle.record_steps.specs.Steps.{EvaluationOutcome, evalCall, evaluateOf, o
 use Rattle.record_steps.proofs.Changes.{evaluation-outcome, reply-of-changes, device-of-changes, reply-of-direct-current, device-of-direct-current, reply-of-refusal, device-of-refusal}
 use Rattle.record.proofs.DeviceRecord as T
 use Rattle.record.proofs.DeviceRecord.Laws as T′
-use Rattle.record.proofs.PointRecord as P
-use Rattle.record.proofs.PointRecord.Laws as P′
-use Rattle.record.proofs.ChargesRecord as Q
-use Rattle.record.proofs.ChargesRecord.Laws as Q′
+use Rattle.device.proofs.OperatingPoint as P
+use Rattle.device.proofs.OperatingPoint.Laws as P′
+use Rattle.device.proofs.Charges as Q
+use Rattle.device.proofs.Charges.Laws as Q′
 use Rattle.record.proofs.MethodRecord as D
 use Rattle.record.proofs.MethodRecord.Laws as D′
 use Rattle.record_steps.proofs.ConditionsRecord as K

@@ -8,9 +8,6 @@ use Rattle.record_steps.proofs.commit_changes.Tie as tie
 enum-known-a : tie.Need-enum-known-a
 enum-known-a c = search needs
 
-point-record-requires : tie.Need-point-record-requires
-point-record-requires c κs = search needs
-
 histories-record-requires : tie.Need-histories-record-requires
 histories-record-requires c κs = search needs
 
@@ -22,11 +19,11 @@ wide-requires c κs = search needs
 
 returns : tie.Need-returns
 unfolding commitGiven
-returns c = rw (c .histories-record .ensures, c .before .point-record .ensures, c .before .before .before .before .before .a .given .1)
+returns c = rw (c .histories-record .ensures, c .before .before .before .before .a .given .1)
 
 returns-2 : tie.Need-returns-2
 unfolding commitGiven
 returns-2 c = rw (c .wide .ensures, c .before .before .a2 .given .1)
 
 pub commit-changes-spec : {M : Type 1} → statement M
-commit-changes-spec = tie.close (tie.spec enum-known-a point-record-requires histories-record-requires enum-known-a-2 wide-requires returns returns-2)
+commit-changes-spec = tie.close (tie.spec enum-known-a histories-record-requires enum-known-a-2 wide-requires returns returns-2)
