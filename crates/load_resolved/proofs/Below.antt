@@ -2,11 +2,12 @@
 use mathlib.Core.Path.{_≡_, refl, sym, ap, _∙_, subst}
 use mathlib.Core.Bool.{Bool, true, false, cond, _&&_, _||_}
 use mathlib.Core.List.{List, [], _∷_, _++_}
-use Prim.Native.Nat.{ℕ, zero, suc, _+_, _<_}
+use Prim.Native.Nat.{ℕ, zero, suc, _+_, _-_, _<_, _≤_}
 use native.Mathlib.Omega.{arith}
 use native.Mathlib.Nat.{add-zero}
 use lib.ListN.{getD}
 use lib.Dec.{ltb}
+use borrow.Author.Tests.{lt-ltb, le-ltb}
 use Rattle.pattern.proofs.Rows.{and-left, and-right}
 use Rattle.device.specs.declared.Charges.{Charges}
 use Rattle.stamps.specs.Stamps.{position}
@@ -43,6 +44,25 @@ below-at n w k (suc m) (suc j) e h =
     let moved : suc k + j ≡ k + suc j = omega arith in
     subst (λ (i : ℕ). ltb (getD w i 0) n ≡ true) moved
     (below-at n w (suc k) m j (and-right (ltb (getD w k 0) n) (allBelow n (numbersFrom w (suc k) m)) e) (omega arith))
+
+-- the places from k on, of those up to the 37th
+module _ (n : ℕ) (w : List ℕ) (k : ℕ) (h : k < 37) where
+  next : allBelow n (numbersFrom w k (37 - k)) ≡ (ltb (getD w k 0) n && allBelow n (numbersFrom w (k + 1) (37 - (k + 1))))
+  unfolding allBelow numbersFrom
+  next =
+      let some : 37 - k ≡ suc (37 - (k + 1)) = omega arith in
+      let later : suc k ≡ k + 1 = omega arith in
+      ap (λ (m : ℕ). allBelow n (numbersFrom w k m)) some ∙ ap (λ (j : ℕ). ltb (getD w k 0) n && allBelow n (numbersFrom w j (37 - (k + 1)))) later
+
+  pub not-below-here : n ≤ getD w k 0 → allBelow n (numbersFrom w k (37 - k)) ≡ false
+  not-below-here e = next ∙ ap (λ (b : Bool). b && allBelow n (numbersFrom w (k + 1) (37 - (k + 1)))) (le-ltb (getD w k 0) n e)
+
+  pub below-here : getD w k 0 < n → allBelow n (numbersFrom w k (37 - k)) ≡ allBelow n (numbersFrom w (k + 1) (37 - (k + 1)))
+  below-here e = next ∙ ap (λ (b : Bool). b && allBelow n (numbersFrom w (k + 1) (37 - (k + 1)))) (lt-ltb (getD w k 0) n e)
+
+pub none-left : (n : ℕ) (w : List ℕ) (k : ℕ) → k ≤ 37 → 37 ≤ k → allBelow n (numbersFrom w k (37 - k)) ≡ true
+unfolding allBelow numbersFrom
+none-left n w k h e = let none : 37 - k ≡ 0 = omega arith in ap (λ (m : ℕ). allBelow n (numbersFrom w k m)) none
 
 cell-below : (n row column p : ℕ) → ltb p n ≡ true → cellThere n row column p ≡ true
 unfolding cellThere

@@ -4,19 +4,13 @@ use mathlib.Core.Bool.{Bool, _&&_}
 use mathlib.Core.List.{List, _∷_}
 use Prim.Native.Nat.{ℕ, suc}
 use lib.ListN.{getD}
-use lib.Dec.{ltb}
 use Rattle.stamps.specs.Stamps.{position, pairBetween}
 use Rattle.stamps.specs.declared.Position.{Position}
 use Rattle.places.specs.Places.{nodeAt}
 use Rattle.load_resolved.specs.LoadResolved.{numbersFrom}
-use Rattle.load_resolved.specs.ByNumbers.{cellThere, pairsStored, allBelow}
+use Rattle.load_resolved.specs.ByNumbers.{cellThere, pairsStored}
 
 module _ (n : ℕ) (w : List ℕ) (k m : ℕ) (rest : Bool) where
-  pub four-below : rest ≡ allBelow n (numbersFrom w (suc (suc (suc (suc k)))) m)
-      → (ltb (getD w k 0) n && (ltb (getD w (suc k) 0) n && (ltb (getD w (suc (suc k)) 0) n && (ltb (getD w (suc (suc (suc k))) 0) n && rest)))) ≡ allBelow n (numbersFrom w k (suc (suc (suc (suc m)))))
-  unfolding allBelow numbersFrom
-  four-below e = ap (λ (b : Bool). ltb (getD w k 0) n && (ltb (getD w (suc k) 0) n && (ltb (getD w (suc (suc k)) 0) n && (ltb (getD w (suc (suc (suc k))) 0) n && b)))) e
-
   pub four-there : (a b : ℕ) (cs : List Position) → rest ≡ pairsStored n cs (numbersFrom w (suc (suc (suc (suc k)))) m)
       → (cellThere n a a (getD w k 0) && (cellThere n a b (getD w (suc k) 0) && (cellThere n b a (getD w (suc (suc k)) 0) && (cellThere n b b (getD w (suc (suc (suc k))) 0) && rest)))) ≡ pairsStored n (pairBetween (nodeAt a) (nodeAt b) cs) (numbersFrom w k (suc (suc (suc (suc m)))))
   unfolding pairsStored numbersFrom cellThere

@@ -1,12 +1,12 @@
 -- Adding at stored places: one place by the nodes' numbers, lists one after another, lengths.
 use mathlib.Core.Path.{_≡_, refl, sym, ap, _∙_}
-use mathlib.Core.Bool.{Bool, true, false, cond, _||_}
+use mathlib.Core.Bool.{Bool, true, false, false≢true, cond, _||_}
 use mathlib.Core.List.{List, [], _∷_, _++_}
 use Prim.Native.Nat.{ℕ, _≤_}
 use native.Mathlib.Omega.{arith}
 use lib.ListN.{length, getD}
 use lib.Dec.{eqb}
-use lib.Ieee.{Float}
+use lib.Ieee.{Float, neg}
 use Rattle.device.specs.declared.NodeId.the-variants.{Ground, At}
 use Rattle.device.specs.declared.Mosfet1.{Mosfet1}
 use Rattle.device.specs.declared.OperatingPoint.{OperatingPoint}
@@ -15,11 +15,11 @@ use Rattle.stamps.specs.declared.ChargeBranch.{ChargeBranch}
 use Rattle.stamps.specs.declared.ChargeBranches.{ChargeBranches}
 use Rattle.places.specs.Places.{skippedNumber, nodeAt, terminalsAt}
 use Rattle.places.specs.declared.Nodes.{Nodes}
-use Rattle.adding.specs.Adding.{addAt}
+use Rattle.adding.specs.Adding.{addAt, addAll}
 use Rattle.adding.proofs.Adding.{add-outside, length-add}
-use Rattle.assembly.specs.Assembly.{Contribution, Place, ground, missing, at, addPlace, paired}
+use Rattle.assembly.specs.Assembly.{Contribution, Place, ground, missing, at, addPlace, paired, conductancePair}
 use Rattle.load_resolved.specs.LoadResolved.{isGround, numbersFrom, grounded, storedPlace, addStored}
-use Rattle.load_resolved.specs.ByNumbers.{placeBetween, addBranch, addBranchesStored, addChannel, addPair, channelPairs}
+use Rattle.load_resolved.specs.ByNumbers.{placeBetween, addBranch, addBranchesStored, addChannel, addPair, addConductance, channelPairs}
 
 -- a skipped place lies behind the end
 between : (xs : List Float) (i j p : ℕ) (x : Float) (a b : Bool) → length xs ≤ skippedNumber
@@ -33,6 +33,37 @@ pub add-between : (xs : List Float) (row column p : ℕ) (x : Float) → length 
     → addAt xs (placeBetween row column p) x ≡ addPlace (storedPlace (position (nodeAt row) (nodeAt column)) p) x xs
 unfolding placeBetween storedPlace grounded nodeAt
 add-between xs row column p x room = between xs row column p x (eqb row skippedNumber) (eqb column skippedNumber) room
+
+or-left : (a b : Bool) → (a || b) ≡ false → a ≡ false
+or-left true b e = e
+or-left false b e = refl
+
+or-right : (a b : Bool) → (a || b) ≡ false → b ≡ false
+or-right true b e = absurd (false≢true (sym e))
+or-right false b e = e
+
+-- Where neither node is ground the places count as they are stored
+module _ (a b : ℕ) (none : (eqb a skippedNumber || eqb b skippedNumber) ≡ false) where
+  pub pair-plain : (g : Float) (aa ab ba bb : ℕ) (xs : List Float) → addAt (addAt (addAt (addAt xs aa g) ab (neg g)) ba (neg g)) bb g ≡ addPair a b g aa ab ba bb xs
+  unfolding addPair addStored paired addPlace storedPlace grounded nodeAt
+  pair-plain g aa ab ba bb xs = rw (or-left (eqb a skippedNumber) (eqb b skippedNumber) none, or-right (eqb a skippedNumber) (eqb b skippedNumber) none)
+
+  pub conductance-plain : (g : Float) (aa ab bb ba : ℕ) (xs : List Float) → addAt (addAt (addAt (addAt xs aa g) ab (neg g)) bb g) ba (neg g) ≡ addConductance a b g aa ab bb ba xs
+  unfolding addConductance addStored conductancePair addPlace storedPlace grounded nodeAt
+  conductance-plain g aa ab bb ba xs = rw (or-left (eqb a skippedNumber) (eqb b skippedNumber) none, or-right (eqb a skippedNumber) (eqb b skippedNumber) none)
+
+pub channel-plain : (n : Nodes) (w : List ℕ) (p : OperatingPoint) (xs : List Float)
+    → ((eqb (n .drain) skippedNumber || eqb (n .gate) skippedNumber) || (eqb (n .source) skippedNumber || eqb (n .bulk) skippedNumber)) ≡ false
+    → addAll xs (numbersFrom w 8 8) (channelValues p []) ≡ addChannel n w p xs
+unfolding addChannel addStored paired numbersFrom addAll addPlace storedPlace grounded nodeAt
+channel-plain n w p xs none =
+    let d = eqb (n .drain) skippedNumber in
+    let g = eqb (n .gate) skippedNumber in
+    let s = eqb (n .source) skippedNumber in
+    let b = eqb (n .bulk) skippedNumber in
+    let ends = or-left (d || g) (s || b) none in
+    let others = or-right (d || g) (s || b) none in
+    rw (or-left d g ends, or-right d g ends, or-left s b others, or-right s b others)
 
 length-place : (p : Place) (x : Float) (xs : List Float) → length (addPlace p x xs) ≡ length xs
 unfolding addPlace

@@ -81,6 +81,10 @@ addChannel n w p xs = addStored (paired (channelPairs n) (channelValues p [])) (
 unfoldable pub addPair : ℕ → ℕ → Float → ℕ → ℕ → ℕ → ℕ → List Float → List Float
 addPair a b g aa ab ba bb xs = addStored (paired (pairBetween (nodeAt a) (nodeAt b) []) (valuesBetween g [])) (aa ∷ ab ∷ ba ∷ bb ∷ []) xs
 
+-- a conductance between two nodes, in the order of a charge branch's cells
+unfoldable pub addConductance : ℕ → ℕ → Float → ℕ → ℕ → ℕ → ℕ → List Float → List Float
+addConductance a b g aa ab bb ba xs = addStored (conductancePair (nodeAt a) (nodeAt b) g) (aa ∷ ab ∷ bb ∷ ba ∷ []) xs
+
 -- a charge branch
 unfoldable pub addBranch : ChargeBranch → ℕ → ℕ → ℕ → ℕ → ℕ → ℕ → List Float → List Float
 addBranch br a b aa ab bb ba xs = addStored (branchCells (nodeAt a) (nodeAt b) br) (branchPlaces br aa ab bb ba) xs

@@ -18,12 +18,12 @@ ghost use lib.Dec.{eqb, ltb};
 ghost use Rattle.exact.specs.Float64.{_≠f_, +0};
 ghost use Rattle.device.specs.Stages.{unevaluated};
 ghost use Rattle.stamps.specs.Stamps.{position, jacPairsOf, jacValuesOf, residualOf, pairBetween, valuesBetween, channelValues, chargeBranchesOf};
-ghost use Rattle.places.specs.Places.{nodeAt, nodesOf, terminalsAt};
-ghost use Rattle.adding.specs.Adding.{addSources, offsetSources, branchHistory};
+ghost use Rattle.places.specs.Places.{skippedNumber, nodeAt, nodesOf, terminalsAt};
+ghost use Rattle.adding.specs.Adding.{addAll, addSources, offsetSources, branchHistory};
 ghost use Rattle.assembly.specs.Assembly.{addPlace, paired, conductancePair};
 ghost use Rattle.loading.specs.Loading.{nodesOutside, alphaOutside, earlyRow, outcomeOfLoad, jacobianContributions, branchesOf};
 ghost use Rattle.load_resolved.specs.LoadResolved.{numbersFrom, madeFor, storedPlace, addStored, allStored, branchPlaces, cellsHeld, resolvedRowOf, LoadedResolved};
-ghost use Rattle.load_resolved.specs.ByNumbers.{cellThere, pairsStored, branchStored, branchesStored, allBelow, nodesAre, held, isTransient, placeBetween, addChannel, addPair, addBranch, addBranchesStored, historySources};
+ghost use Rattle.load_resolved.specs.ByNumbers.{cellThere, pairsStored, branchStored, branchesStored, allBelow, nodesAre, held, isTransient, placeBetween, addChannel, addPair, addConductance, addBranch, addBranchesStored, historySources};
 
 // The number of ground among the nodes, and of a place that is skipped.
 const SKIPPED: usize = 18446744073709551615;
@@ -203,27 +203,18 @@ fn branches_there(n: Nodes, cells: &[usize; 37], len: usize, q: Charges) -> bool
     both(four, bd)
 }
 
-fn four_below(p: usize, q: usize, r: usize, s: usize, len: usize, rest: bool) -> bool
-    ensures { λ o. ⌜ o ≡ (ltb p len && (ltb q len && (ltb r len && (ltb s len && rest)))) ⌝ }
-{
-    let last = both(s < len, rest);
-    let third = both(r < len, last);
-    let second = both(q < len, third);
-    both(p < len, second)
-}
-
 // Every place is among the values: then it does not matter which are ground's.
 fn all_below(cells: &[usize; 37], len: usize) -> bool
     ensures { λ r. ⌜ r ≡ allBelow len (numbersFrom (now (cells .entry)) 8 29) ⌝ }
 {
-    let g = both(cells[36] < len, true);
-    let f = four_below(cells[32], cells[33], cells[34], cells[35], len, g);
-    let e = four_below(cells[28], cells[29], cells[30], cells[31], len, f);
-    let d = four_below(cells[24], cells[25], cells[26], cells[27], len, e);
-    let c = four_below(cells[20], cells[21], cells[22], cells[23], len, d);
-    let b = four_below(cells[16], cells[17], cells[18], cells[19], len, c);
-    let a = four_below(cells[12], cells[13], cells[14], cells[15], len, b);
-    four_below(cells[8], cells[9], cells[10], cells[11], len, a)
+    let mut k: usize = 8;
+    while k < 37 {
+        if len <= cells[k] {
+            return false;
+        }
+        k += 1;
+    }
+    true
 }
 
 fn nodes_are(n: Nodes, cells: &[usize; 37]) -> bool
@@ -315,6 +306,25 @@ fn place_between(row: usize, column: usize, place: usize) -> usize
     place
 }
 
+// One of two nodes is ground.
+fn either_ground(a: usize, b: usize) -> bool
+    ensures { λ r. ⌜ r ≡ (eqb a skippedNumber || eqb b skippedNumber) ⌝ }
+{
+    if a == SKIPPED {
+        return true;
+    }
+    b == SKIPPED
+}
+
+fn any_ground(a: usize, b: usize, c: usize, d: usize) -> bool
+    ensures { λ r. ⌜ r ≡ ((eqb a skippedNumber || eqb b skippedNumber) || (eqb c skippedNumber || eqb d skippedNumber)) ⌝ }
+{
+    if either_ground(a, b) {
+        return true;
+    }
+    either_ground(c, d)
+}
+
 // A value added at a stored place, unless an end of its position is ground.
 fn add_cell(xs: &mut [f64], row: usize, column: usize, place: usize, x: f64)
     ensures { λ r. ⌜ now (xs .exit) ≡ addPlace (storedPlace (position (nodeAt row) (nodeAt column)) place) x (now (xs .entry)) ⌝ }
@@ -323,8 +333,8 @@ fn add_cell(xs: &mut [f64], row: usize, column: usize, place: usize, x: f64)
     adding::add_at(xs, at, x);
 }
 
-// The channel's eight values.
-fn add_channel(xs: &mut [f64], n: Nodes, cells: &[usize; 37], p: OperatingPoint)
+// The channel's eight values where a node may be ground.
+fn add_channel_by_cell(xs: &mut [f64], n: Nodes, cells: &[usize; 37], p: OperatingPoint)
     ensures { λ r. ⌜ now (xs .exit) ≡ addChannel n (now (cells .entry)) p (now (xs .entry)) ⌝ }
 {
     let d = n.drain;
@@ -345,14 +355,50 @@ fn add_channel(xs: &mut [f64], n: Nodes, cells: &[usize; 37], p: OperatingPoint)
     add_cell(xs, s, b, cells[15], -gmbs);
 }
 
-// A conductance between the nodes a and b, in the order of `jac_pairs`.
+// The same where none is: every place counts.
+fn add_channel_plain(xs: &mut [f64], cells: &[usize; 37], p: OperatingPoint)
+    ensures { λ r. ⌜ now (xs .exit) ≡ addAll (now (xs .entry)) (numbersFrom (now (cells .entry)) 8 8) (channelValues p []) ⌝ }
+{
+    let gm = p.gm;
+    let gds = p.gds;
+    let gmbs = p.gmbs;
+    let gms = gm + gds + gmbs;
+    adding::add_at(xs, cells[8], gm);
+    adding::add_at(xs, cells[9], gds);
+    adding::add_at(xs, cells[10], -gms);
+    adding::add_at(xs, cells[11], gmbs);
+    adding::add_at(xs, cells[12], -gm);
+    adding::add_at(xs, cells[13], -gds);
+    adding::add_at(xs, cells[14], gms);
+    adding::add_at(xs, cells[15], -gmbs);
+}
+
+// The channel's eight values. Ground is asked for once for all of them, not at each.
+fn add_channel(xs: &mut [f64], n: Nodes, cells: &[usize; 37], p: OperatingPoint)
+    ensures { λ r. ⌜ now (xs .exit) ≡ addChannel n (now (cells .entry)) p (now (xs .entry)) ⌝ }
+{
+    if any_ground(n.drain, n.gate, n.source, n.bulk) {
+        add_channel_by_cell(xs, n, cells, p);
+    } else {
+        add_channel_plain(xs, cells, p);
+    }
+}
+
+// A conductance between the nodes a and b, in the order of `jac_pairs`. Ground is asked for once.
 fn add_pair(xs: &mut [f64], a: usize, b: usize, g: f64, aa: usize, ab: usize, ba: usize, bb: usize)
     ensures { λ r. ⌜ now (xs .exit) ≡ addPair a b g aa ab ba bb (now (xs .entry)) ⌝ }
 {
-    add_cell(xs, a, a, aa, g);
-    add_cell(xs, a, b, ab, -g);
-    add_cell(xs, b, a, ba, -g);
-    add_cell(xs, b, b, bb, g);
+    if either_ground(a, b) {
+        add_cell(xs, a, a, aa, g);
+        add_cell(xs, a, b, ab, -g);
+        add_cell(xs, b, a, ba, -g);
+        add_cell(xs, b, b, bb, g);
+    } else {
+        adding::add_at(xs, aa, g);
+        adding::add_at(xs, ab, -g);
+        adding::add_at(xs, ba, -g);
+        adding::add_at(xs, bb, g);
+    }
 }
 
 // `load_jacobian`: the channel, the series resistances, the junctions.
@@ -411,7 +457,24 @@ fn add_jacobian(xs: &mut [f64], n: Nodes, cells: &[usize; 37], d: Mosfet1)
     );
 }
 
-// A charge branch's conductance at its four cells, in the order of `stamp_g_pair`.
+// A conductance at its four cells, in the order of `stamp_g_pair`. Ground is asked for once.
+fn add_four(xs: &mut [f64], a: usize, b: usize, g: f64, aa: usize, ab: usize, bb: usize, ba: usize)
+    ensures { λ r. ⌜ now (xs .exit) ≡ addConductance a b g aa ab bb ba (now (xs .entry)) ⌝ }
+{
+    if either_ground(a, b) {
+        add_cell(xs, a, a, aa, g);
+        add_cell(xs, a, b, ab, -g);
+        add_cell(xs, b, b, bb, g);
+        add_cell(xs, b, a, ba, -g);
+    } else {
+        adding::add_at(xs, aa, g);
+        adding::add_at(xs, ab, -g);
+        adding::add_at(xs, bb, g);
+        adding::add_at(xs, ba, -g);
+    }
+}
+
+// A charge branch that conducts.
 fn add_branch(
     xs: &mut [f64],
     br: ChargeBranch,
@@ -426,10 +489,7 @@ fn add_branch(
 {
     let g = br.conductance;
     if br.conducts {
-        add_cell(xs, a, a, aa, g);
-        add_cell(xs, a, b, ab, -g);
-        add_cell(xs, b, b, bb, g);
-        add_cell(xs, b, a, ba, -g);
+        add_four(xs, a, b, g, aa, ab, bb, ba);
     }
 }
 

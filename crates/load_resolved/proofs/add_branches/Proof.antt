@@ -87,7 +87,7 @@ add-branch-requires-5 c κs = search needs
 
 returns : tie.Need-returns
 unfolding addBranchesStored
-returns c = rw (← c .before .before .before .before .before .before .before .before .before .before .before .before .before .before .before .before .before .before .before .before .before .before .before .before .before .before .before .before .before .before .before .before .before .before .add-branch .ensures, ← c .before .before .before .before .before .before .before .before .before .before .before .before .before .before .before .before .before .before .before .before .before .before .before .before .before .before .add-branch2 .ensures, ← c .before .before .before .before .before .before .before .before .before .before .before .before .before .before .before .before .before .before .add-branch3 .ensures, ← c .before .before .before .before .before .before .before .before .before .before .add-branch4 .ensures, ← c .before .before .add-branch5 .ensures)
+returns c = rw (c .before .before .add-branch5 .ensures, c .before .before .before .before .before .before .before .before .before .before .add-branch4 .ensures, c .before .before .before .before .before .before .before .before .before .before .before .before .before .before .before .before .before .before .add-branch3 .ensures, c .before .before .before .before .before .before .before .before .before .before .before .before .before .before .before .before .before .before .before .before .before .before .before .before .before .before .add-branch2 .ensures, c .before .before .before .before .before .before .before .before .before .before .before .before .before .before .before .before .before .before .before .before .before .before .before .before .before .before .before .before .before .before .before .before .before .before .add-branch .ensures)
 
 same-length : tie.Need-same-length
 same-length c = ap length (returns c) ∙ length-branches _ _ _ _

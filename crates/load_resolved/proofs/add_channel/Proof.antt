@@ -1,91 +1,44 @@
--- `load_resolved::add_channel`: eight additions in turn.
-use mathlib.Core.Path.{ap, _∙_}
-use lib.ListN.{length}
-use Rattle.assembly.specs.Assembly.{paired}
-use Rattle.load_resolved.specs.LoadResolved.{addStored, numbersFrom}
-use Rattle.load_resolved.specs.ByNumbers.{addChannel}
-use Rattle.load_resolved.proofs.Stored.{length-channel}
+-- `load_resolved::add_channel`: where no node is ground, the plain places.
+use mathlib.Core.Path.{sym, _∙_}
+use Rattle.load_resolved.proofs.Stored.{channel-plain}
 use borrow.Author.Needs.{needs}
 use Rattle.load_resolved.proofs.add_channel.Statement.{statement}
 use Rattle.load_resolved.proofs.add_channel.Tie as tie
 use Rattle.load_resolved.proofs.add_channel.Reads as reads
 use Rattle.load_resolved.proofs.add_channel.Lts as lts
-use Rattle.load_resolved.proofs.add_cell.Reads as add-cell-reads
+use Rattle.load_resolved.proofs.add_channel_by_cell.Reads as add-channel-by-cell-reads
+use Rattle.load_resolved.proofs.add_channel_plain.Reads as add-channel-plain-reads
+use Rattle.load_resolved.proofs.any_ground.Reads as any-ground-reads
 
-element-copy-out-add-cell : tie.Need-element-copy-out-add-cell
-element-copy-out-add-cell c = search needs
+any-ground-requires : tie.Need-any-ground-requires
+any-ground-requires c κs = search needs
 
-add-cell-requires : tie.Need-add-cell-requires
-add-cell-requires c κs = search needs
+add-channel-by-cell-requires : tie.Need-add-channel-by-cell-requires
+add-channel-by-cell-requires c κs = search needs
 
-element-copy-out-add-cell-2 : tie.Need-element-copy-out-add-cell-2
-element-copy-out-add-cell-2 c = search needs
-
-add-cell-requires-2 : tie.Need-add-cell-requires-2
-add-cell-requires-2 c κs = search needs
-
-element-copy-out-add-cell-3 : tie.Need-element-copy-out-add-cell-3
-element-copy-out-add-cell-3 c = search needs
-
-add-cell-requires-3 : tie.Need-add-cell-requires-3
-add-cell-requires-3 c κs = search needs
-
-element-copy-out-add-cell-4 : tie.Need-element-copy-out-add-cell-4
-element-copy-out-add-cell-4 c = search needs
-
-add-cell-requires-4 : tie.Need-add-cell-requires-4
-add-cell-requires-4 c κs = search needs
-
-element-copy-out-add-cell-5 : tie.Need-element-copy-out-add-cell-5
-element-copy-out-add-cell-5 c = search needs
-
-add-cell-requires-5 : tie.Need-add-cell-requires-5
-add-cell-requires-5 c κs = search needs
-
-element-copy-out-add-cell-6 : tie.Need-element-copy-out-add-cell-6
-element-copy-out-add-cell-6 c = search needs
-
-add-cell-requires-6 : tie.Need-add-cell-requires-6
-add-cell-requires-6 c κs = search needs
-
-element-copy-out-add-cell-7 : tie.Need-element-copy-out-add-cell-7
-element-copy-out-add-cell-7 c = search needs
-
-add-cell-requires-7 : tie.Need-add-cell-requires-7
-add-cell-requires-7 c κs = search needs
-
-element-copy-out-add-cell-8 : tie.Need-element-copy-out-add-cell-8
-element-copy-out-add-cell-8 c = search needs
-
-add-cell-requires-8 : tie.Need-add-cell-requires-8
-add-cell-requires-8 c κs = search needs
-
-returns : tie.Need-returns
-unfolding addChannel addStored paired numbersFrom
-returns c = rw (← c .before .before .before .before .before .before .before .before .before .before .before .before .before .before .before .before .before .before .before .before .before .before .before .before .before .before .before .before .before .before .before .before .before .before .before .before .before .add-cell .ensures, ← c .before .before .before .before .before .before .before .before .before .before .before .before .before .before .before .before .before .before .before .before .before .before .before .before .before .before .before .before .before .before .before .before .add-cell2 .ensures, ← c .before .before .before .before .before .before .before .before .before .before .before .before .before .before .before .before .before .before .before .before .before .before .before .before .before .before .before .add-cell3 .ensures, ← c .before .before .before .before .before .before .before .before .before .before .before .before .before .before .before .before .before .before .before .before .before .before .add-cell4 .ensures, ← c .before .before .before .before .before .before .before .before .before .before .before .before .before .before .before .before .before .add-cell5 .ensures, ← c .before .before .before .before .before .before .before .before .before .before .before .before .add-cell6 .ensures, ← c .before .before .before .before .before .before .before .add-cell7 .ensures, ← c .before .before .add-cell8 .ensures)
+add-channel-plain-requires : tie.Need-add-channel-plain-requires
+add-channel-plain-requires c κs = search needs
 
 same-length : tie.Need-same-length
-same-length c = ap length (returns c) ∙ length-channel _ _ _ _
+same-length c = search needs
+
+returns : tie.Need-returns
+returns c = search needs
+
+same-length-2 : tie.Need-same-length-2
+same-length-2 c = search needs
+
+returns-2 : tie.Need-returns-2
+returns-2 c = c .before .before .add-channel-plain .ensures ∙ channel-plain _ _ _ _ (sym (c .before .before .before .before .before .any-ground .ensures) ∙ c .before .before .before .before .if1 .left)
 
 pub add-channel-spec : {M : Type 1} → statement M
 add-channel-spec =
     tie.close
     (tie.spec
-    element-copy-out-add-cell
-    add-cell-requires
-    element-copy-out-add-cell-2
-    add-cell-requires-2
-    element-copy-out-add-cell-3
-    add-cell-requires-3
-    element-copy-out-add-cell-4
-    add-cell-requires-4
-    element-copy-out-add-cell-5
-    add-cell-requires-5
-    element-copy-out-add-cell-6
-    add-cell-requires-6
-    element-copy-out-add-cell-7
-    add-cell-requires-7
-    element-copy-out-add-cell-8
-    add-cell-requires-8
+    any-ground-requires
+    add-channel-by-cell-requires
+    add-channel-plain-requires
     same-length
-    returns)
+    returns
+    same-length-2
+    returns-2)
