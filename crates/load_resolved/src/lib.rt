@@ -15,11 +15,12 @@ ghost use mathlib.Core.Bool.{Bool, true, cond, not, _&&_, _||_};
 ghost use mathlib.Core.List.{[], _∷_};
 ghost use lib.ListN.{length, getD};
 ghost use lib.Dec.{eqb, ltb};
-ghost use Rattle.exact.specs.Float64.{_≠f_, +0};
+ghost use lib.Ieee.{neg};
+ghost use Rattle.exact.specs.Float64.{_⊕_, _≠f_, +0};
 ghost use Rattle.device.specs.Stages.{unevaluated};
-ghost use Rattle.stamps.specs.Stamps.{position, jacPairsOf, jacValuesOf, residualOf, pairBetween, valuesBetween, channelValues, chargeBranchesOf};
+ghost use Rattle.stamps.specs.Stamps.{position, jacPairsOf, jacValuesOf, residualOf, seriesOf, pairBetween, valuesBetween, channelValues, chargeBranchesOf};
 ghost use Rattle.places.specs.Places.{skippedNumber, nodeAt, nodesOf, terminalsAt};
-ghost use Rattle.adding.specs.Adding.{addAll, addSources, offsetSources, branchHistory};
+ghost use Rattle.adding.specs.Adding.{addAt, addAll, addSources, offsetSources, branchHistory};
 ghost use Rattle.assembly.specs.Assembly.{addPlace, paired, conductancePair};
 ghost use Rattle.loading.specs.Loading.{nodesOutside, alphaOutside, earlyRow, outcomeOfLoad, jacobianContributions, branchesOf};
 ghost use Rattle.load_resolved.specs.LoadResolved.{numbersFrom, madeFor, storedPlace, addStored, allStored, branchPlaces, cellsHeld, resolvedRowOf, LoadedResolved};
@@ -401,12 +402,84 @@ fn add_pair(xs: &mut [f64], a: usize, b: usize, g: f64, aa: usize, ab: usize, ba
     }
 }
 
+// Adding -0 leaves a number as it is. Nothing is compiled of this.
+fn kept(x: f64)
+    ensures { λ r. ⌜ x ⊕ neg +0 ≡ x ⌝ }
+{}
+
+// Adding -0 at a place changes nothing. The entry is read because it is then known to be a number of the format, to which that
+// applies; nothing is compiled of it.
+fn keep(xs: &mut [f64], place: usize)
+    ensures { λ r. ⌜ (now (xs .exit) ≡ now (xs .entry)) × (addAt (now (xs .entry)) place (neg +0) ≡ now (xs .entry)) ⌝ }
+{
+    if place < xs.len() {
+        kept(xs[place]);
+    }
+}
+
+fn zero_added(x: f64) -> f64
+    ensures { λ r. ⌜ (r ≡ x ⊕ +0) × (r ⊕ +0 ≡ r) ⌝ }
+{
+    x + 0.0
+}
+
+// Zero added at a place, which makes 0 of -0. A second zero changes nothing more.
+fn add_zero(xs: &mut [f64], place: usize)
+    ensures { λ r. ⌜ (now (xs .exit) ≡ addAt (now (xs .entry)) place +0) × (addAt (now (xs .exit)) place +0 ≡ now (xs .exit)) ⌝ }
+{
+    if place < xs.len() {
+        xs[place] = zero_added(xs[place]);
+    }
+}
+
+// A conductance of zero: of the four additions the two of -0 change nothing, nor does the last where it is at the place of the first.
+fn add_no_conductance(
+    xs: &mut [f64],
+    a: usize,
+    b: usize,
+    aa: usize,
+    ab: usize,
+    ba: usize,
+    bb: usize,
+)
+    ensures { λ r. ⌜ now (xs .exit) ≡ addPair a b +0 aa ab ba bb (now (xs .entry)) ⌝ }
+{
+    let first = place_between(a, a, aa);
+    let last = place_between(b, b, bb);
+    add_zero(xs, first);
+    keep(xs, place_between(a, b, ab));
+    keep(xs, place_between(b, a, ba));
+    if first != last {
+        add_zero(xs, last);
+    }
+}
+
+// A series resistance; most devices have none.
+fn add_series(
+    xs: &mut [f64],
+    a: usize,
+    b: usize,
+    r: f64,
+    aa: usize,
+    ab: usize,
+    ba: usize,
+    bb: usize,
+)
+    ensures { λ o. ⌜ now (xs .exit) ≡ addPair a b (seriesOf r) aa ab ba bb (now (xs .entry)) ⌝ }
+{
+    if r > 0.0 {
+        add_pair(xs, a, b, 1.0 / r, aa, ab, ba, bb);
+    } else {
+        add_no_conductance(xs, a, b, aa, ab, ba, bb);
+    }
+}
+
 // `load_jacobian`: the channel, the series resistances, the junctions.
 fn add_jacobian(xs: &mut [f64], n: Nodes, cells: &[usize; 37], d: Mosfet1)
     ensures { λ r. ⌜ now (xs .exit) ≡ addStored (paired (jacPairsOf (terminalsAt n)) (jacValuesOf d)) (numbersFrom (now (cells .entry)) 8 24) (now (xs .entry)) ⌝ }
 {
-    let g_d = stamps::series(d.geometry.rd);
-    let g_s = stamps::series(d.geometry.rs);
+    let rd = d.geometry.rd;
+    let rs = d.geometry.rs;
     let drain = n.drain;
     let source = n.source;
     let bulk = n.bulk;
@@ -415,21 +488,21 @@ fn add_jacobian(xs: &mut [f64], n: Nodes, cells: &[usize; 37], d: Mosfet1)
     let gbs = d.point.gbs;
     let gbd = d.point.gbd;
     add_channel(xs, n, cells, d.point);
-    add_pair(
+    add_series(
         xs,
         drain_ext,
         drain,
-        g_d,
+        rd,
         cells[16],
         cells[17],
         cells[18],
         cells[19],
     );
-    add_pair(
+    add_series(
         xs,
         source_ext,
         source,
-        g_s,
+        rs,
         cells[20],
         cells[21],
         cells[22],
