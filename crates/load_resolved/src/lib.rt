@@ -10,6 +10,7 @@ use loading::LoadKind;
 use places::Nodes;
 use stamps::ChargeBranch;
 use stamps::ChargeBranches;
+ghost use Prim.Native.Nat.{_+_, _<_};
 ghost use mathlib.Core.Path.{_≡_};
 ghost use mathlib.Core.Bool.{Bool, true, cond, not, _&&_, _||_};
 ghost use mathlib.Core.List.{[], _∷_};
@@ -474,6 +475,39 @@ fn add_series(
     }
 }
 
+// A conductance at the four places from k on. Reading them here keeps the caller short.
+fn pair_at(xs: &mut [f64], a: usize, b: usize, g: f64, cells: &[usize; 37], k: usize)
+    requires { ⌜ k + 3 < 37 ⌝ }
+    ensures { λ r. ⌜ now (xs .exit) ≡ addPair a b g (getD (now (cells .entry)) k 0) (getD (now (cells .entry)) (k + 1) 0) (getD (now (cells .entry)) (k + 2) 0) (getD (now (cells .entry)) (k + 3) 0) (now (xs .entry)) ⌝ }
+{
+    add_pair(
+        xs,
+        a,
+        b,
+        g,
+        cells[k],
+        cells[k + 1],
+        cells[k + 2],
+        cells[k + 3],
+    );
+}
+
+fn series_at(xs: &mut [f64], a: usize, b: usize, r: f64, cells: &[usize; 37], k: usize)
+    requires { ⌜ k + 3 < 37 ⌝ }
+    ensures { λ o. ⌜ now (xs .exit) ≡ addPair a b (seriesOf r) (getD (now (cells .entry)) k 0) (getD (now (cells .entry)) (k + 1) 0) (getD (now (cells .entry)) (k + 2) 0) (getD (now (cells .entry)) (k + 3) 0) (now (xs .entry)) ⌝ }
+{
+    add_series(
+        xs,
+        a,
+        b,
+        r,
+        cells[k],
+        cells[k + 1],
+        cells[k + 2],
+        cells[k + 3],
+    );
+}
+
 // `load_jacobian`: the channel, the series resistances, the junctions.
 fn add_jacobian(xs: &mut [f64], n: Nodes, cells: &[usize; 37], d: Mosfet1)
     ensures { λ r. ⌜ now (xs .exit) ≡ addStored (paired (jacPairsOf (terminalsAt n)) (jacValuesOf d)) (numbersFrom (now (cells .entry)) 8 24) (now (xs .entry)) ⌝ }
@@ -488,46 +522,10 @@ fn add_jacobian(xs: &mut [f64], n: Nodes, cells: &[usize; 37], d: Mosfet1)
     let gbs = d.point.gbs;
     let gbd = d.point.gbd;
     add_channel(xs, n, cells, d.point);
-    add_series(
-        xs,
-        drain_ext,
-        drain,
-        rd,
-        cells[16],
-        cells[17],
-        cells[18],
-        cells[19],
-    );
-    add_series(
-        xs,
-        source_ext,
-        source,
-        rs,
-        cells[20],
-        cells[21],
-        cells[22],
-        cells[23],
-    );
-    add_pair(
-        xs,
-        bulk,
-        source,
-        gbs,
-        cells[24],
-        cells[25],
-        cells[26],
-        cells[27],
-    );
-    add_pair(
-        xs,
-        bulk,
-        drain,
-        gbd,
-        cells[28],
-        cells[29],
-        cells[30],
-        cells[31],
-    );
+    series_at(xs, drain_ext, drain, rd, cells, 16);
+    series_at(xs, source_ext, source, rs, cells, 20);
+    pair_at(xs, bulk, source, gbs, cells, 24);
+    pair_at(xs, bulk, drain, gbd, cells, 28);
 }
 
 // A conductance at its four cells, in the order of `stamp_g_pair`. Ground is asked for once.
@@ -566,6 +564,24 @@ fn add_branch(
     }
 }
 
+// A charge branch by the indices of its four places.
+fn branch_at(
+    xs: &mut [f64],
+    br: ChargeBranch,
+    a: usize,
+    b: usize,
+    cells: &[usize; 37],
+    aa: usize,
+    ab: usize,
+    bb: usize,
+    ba: usize,
+)
+    requires { ⌜ (aa < 37) × ((ab < 37) × ((bb < 37) × (ba < 37))) ⌝ }
+    ensures { λ r. ⌜ now (xs .exit) ≡ addBranch br a b (getD (now (cells .entry)) aa 0) (getD (now (cells .entry)) ab 0) (getD (now (cells .entry)) bb 0) (getD (now (cells .entry)) ba 0) (now (xs .entry)) ⌝ }
+{
+    add_branch(xs, br, a, b, cells[aa], cells[ab], cells[bb], cells[ba]);
+}
+
 fn add_branches(xs: &mut [f64], n: Nodes, cells: &[usize; 37], b: ChargeBranches)
     ensures { λ r. ⌜ now (xs .exit) ≡ addBranchesStored n (now (cells .entry)) b (now (xs .entry)) ⌝ }
 {
@@ -573,56 +589,11 @@ fn add_branches(xs: &mut [f64], n: Nodes, cells: &[usize; 37], b: ChargeBranches
     let drain = n.drain;
     let source = n.source;
     let bulk = n.bulk;
-    add_branch(
-        xs,
-        b.gs,
-        gate,
-        source,
-        cells[32],
-        cells[33],
-        cells[14],
-        cells[12],
-    );
-    add_branch(
-        xs,
-        b.gd,
-        gate,
-        drain,
-        cells[32],
-        cells[34],
-        cells[9],
-        cells[8],
-    );
-    add_branch(
-        xs,
-        b.gb,
-        gate,
-        bulk,
-        cells[32],
-        cells[35],
-        cells[24],
-        cells[36],
-    );
-    add_branch(
-        xs,
-        b.bs,
-        bulk,
-        source,
-        cells[24],
-        cells[25],
-        cells[14],
-        cells[15],
-    );
-    add_branch(
-        xs,
-        b.bd,
-        bulk,
-        drain,
-        cells[24],
-        cells[29],
-        cells[9],
-        cells[11],
-    );
+    branch_at(xs, b.gs, gate, source, cells, 32, 33, 14, 12);
+    branch_at(xs, b.gd, gate, drain, cells, 32, 34, 9, 8);
+    branch_at(xs, b.gb, gate, bulk, cells, 32, 35, 24, 36);
+    branch_at(xs, b.bs, bulk, source, cells, 24, 25, 14, 15);
+    branch_at(xs, b.bd, bulk, drain, cells, 24, 29, 9, 11);
 }
 
 // The history currents of gs, gd, gb, bs, bd.
