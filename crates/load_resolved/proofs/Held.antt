@@ -1,6 +1,6 @@
 -- Row 13's test by numbers is the definition's, once row 8 has passed: no node then has ground's number but ground.
-use mathlib.Core.Path.{_≡_, refl, sym, ap, _∙_, subst}
-use mathlib.Core.Bool.{Bool, true, false, cond, not, _&&_, _||_}
+use mathlib.Core.Path.{_≡_, refl, sym, ap, _∙_}
+use mathlib.Core.Bool.{Bool, true, false, cond, _&&_, _||_}
 use mathlib.Core.List.{List, [], _∷_, _++_}
 use Prim.Native.Nat.{ℕ, suc}
 use native.Mathlib.Nat.{suc-inj}
@@ -8,12 +8,9 @@ use native.Mathlib.Omega.{arith}
 use lib.ListN.{length, getD}
 use lib.Dec.{ltb}
 use lib.Ieee.{Float}
-use Rattle.device.specs.declared.NodeId.{NodeId}
 use Rattle.device.specs.declared.Terminals.{Terminals}
 use Rattle.device.specs.declared.Mosfet1.{Mosfet1}
-use Rattle.device.specs.declared.Charges.{Charges}
 use Rattle.stamps.specs.Stamps.{jacPairsOf, jacValuesOf, branchOf, junctionBranchOf, chargeBranchesOf}
-use Rattle.stamps.specs.declared.ChargeBranch.{ChargeBranch}
 use Rattle.stamps.specs.declared.ChargeBranches.{ChargeBranches}
 use Rattle.places.specs.Places.{nodeAt, nodesOf, terminalsAt}
 use Rattle.places.specs.declared.Nodes.{Nodes}

@@ -1,8 +1,7 @@
 -- The rows in their order.
 use mathlib.Core.Path.{_≡_, refl}
-use mathlib.Core.Bool.{Bool, true, false, cond, not}
+use mathlib.Core.Bool.{Bool, true, false, cond}
 use mathlib.Core.List.{[], _∷_}
-use Prim.Native.Nat.{ℕ}
 use native.Mathlib.Omega.{arith}
 use Rattle.device.specs.Refusals.{rowNumber, _when_}
 use Rattle.loading.specs.Loading.{earlyRow}

@@ -1,15 +1,15 @@
 -- A load's contributions are what its parts add: the pairs and offsets, then, where it is transient, the branches and their histories.
-use mathlib.Core.Path.{_≡_, refl, sym, ap, _∙_, subst}
-use mathlib.Core.Bool.{Bool, true, false, cond, not}
+use mathlib.Core.Path.{_≡_, refl, sym, ap, _∙_}
+use mathlib.Core.Bool.{cond, not}
 use mathlib.Core.List.{List, [], _∷_, _++_}
-use Prim.Native.Nat.{ℕ, suc, _≤_}
+use Prim.Native.Nat.{ℕ, _≤_}
 use native.Mathlib.Nat.{suc-inj}
 use native.Mathlib.Omega.{arith}
 use lib.ListN.{length, getD}
 use lib.Dec.{eqb}
 use lib.Ieee.{Float}
 use borrow.Author.Tests.{eq-eqb, ne-eqb}
-use Rattle.device.specs.Refusals.{Outcome, done, refused, rowNumber}
+use Rattle.device.specs.Refusals.{done, refused}
 use Rattle.device.specs.Stages.{unevaluated}
 use Rattle.device.proofs.Rows.{by-number}
 use Rattle.device.specs.declared.Terminals.{Terminals}
@@ -17,16 +17,16 @@ use Rattle.device.specs.declared.Mosfet1.{Mosfet1}
 use Rattle.stamps.specs.Stamps.{jacPairsOf, jacValuesOf, residualOf, chargeBranchesOf}
 use Rattle.stamps.specs.declared.Residual.{Residual}
 use Rattle.stamps.specs.declared.ChargeBranches.{ChargeBranches}
-use Rattle.places.specs.Places.{skippedNumber, nodesOf, nodeAt, terminalsAt}
+use Rattle.places.specs.Places.{skippedNumber, nodesOf, terminalsAt}
 use Rattle.places.specs.declared.Nodes.{Nodes}
 use Rattle.adding.specs.Adding.{addSources, offsetSources, branchHistory, sourceContributions}
 use Rattle.adding.proofs.Adding.{sources-append}
 use Rattle.assembly.specs.Assembly.{Contribution, paired, branchCells, matrixContributions}
-use Rattle.loading.specs.Loading.{nodesOutside, alphaOutside, earlyRow, branchesOf, noBranches, noBranch, jacobianContributions, rhsContributions, ifDone}
+use Rattle.loading.specs.Loading.{nodesOutside, alphaOutside, branchesOf, noBranches, noBranch, jacobianContributions, rhsContributions, ifDone}
 use Rattle.loading.specs.declared.LoadKind.{LoadKind}
 use Rattle.loading.specs.declared.LoadKind.the-variants.{DirectCurrent, Transient}
 use Rattle.loading.proofs.Rows.{early-terminals}
-use Rattle.load_resolved.specs.LoadResolved.{numbersFrom, storedPlace, addStored, branchPlaces, storedPlaces, cellsHeld, loadResolvedRows, loadResolvedOf, resolvedRowOf, LoadedResolved}
+use Rattle.load_resolved.specs.LoadResolved.{numbersFrom, addStored, branchPlaces, storedPlaces, cellsHeld, loadResolvedRows, loadResolvedOf, resolvedRowOf, LoadedResolved}
 use Rattle.load_resolved.specs.ByNumbers.{addBranch, addBranchesStored, historySources}
 use Rattle.load_resolved.proofs.Held.{pairCells, gsCells, gdCells, gbCells, bsCells, bdCells, pairPlaces, gsPlaces, gdPlaces, gbPlaces, bsPlaces, bdPlaces, length-pairs, length-1, length-2, length-3, length-4}
 use Rattle.load_resolved.proofs.Outcomes.{five-early}

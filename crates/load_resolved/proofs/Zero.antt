@@ -1,6 +1,6 @@
 -- Adding a zero to a float of the format: -0 changes nothing, and a second +0 nothing more.
 use mathlib.Core.Path.{_≡_, refl, sym, ap, _∙_, subst}
-use mathlib.Core.Bool.{Bool, true, false, cond, _&&_}
+use mathlib.Core.Bool.{Bool, true, false, _&&_}
 use Prim.Native.Nat.{ℕ, zero, suc, _+_, _-_, _*_, _%_, _^_, _≤_, _<_}
 use native.Mathlib.Nat.{le-of-eq, lt-of-le-of-lt, lt-of-lt-of-le, lt-of-mul-lt-mul-right, mul-lt-mul-of-pos-right, mul-one, one-mul, mul-assoc, mul-left-comm, mul-pos, zero-mul, add-zero, zero-lt-suc, lt-irrefl, pow-suc, pow-succ', eq-of-mul-eq-mul-right}
 use native.Mathlib.Omega.{arith}

@@ -1,5 +1,5 @@
 -- `load_resolved::resolved_row`: the early rows, then row 13's test, by numbers once row 8 has passed.
-use mathlib.Core.Path.{_≡_, refl, sym, ap, _∙_}
+use mathlib.Core.Path.{_≡_, sym, ap, _∙_}
 use mathlib.Core.Bool.{Bool, cond, not}
 use native.Mathlib.Omega.{arith}
 use lib.ListN.{getD}
