@@ -1,10 +1,10 @@
 -- The OR of two tags is at most 1 where both are, so that one test of an OR stands for a test of each tag.
 -- Assumes nothing.
-use Prim.Native.Nat.{ℕ, _*_, _+_, _<_, _≤_, _^_}
+use Prim.Native.Nat.{ℕ, _≤_}
 use mathlib.Core.Path.{_≡_, refl}
 use mathlib.Core.Bool.{Bool, true, false, cond, _&&_}
 use lib.Dec.{leb}
-use lib.Bits.{bitAnd, bitOr, and-le-l, and-le-r, or-lt, or-add-and}
+use lib.Bits.{bitOr, and-le-l, and-le-r, or-lt, or-add-and}
 use native.Mathlib.Omega.{arith}
 use borrow.Author.Tests.{leb-true, leb-false, le-leb, lt-leb}
 use Rattle.record.specs.declared.DeviceRecord.{DeviceRecord}

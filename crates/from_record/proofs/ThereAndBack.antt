@@ -2,12 +2,11 @@
 -- Assumes nothing.
 use Prim.Native.Nat.{ℕ, zero, suc}
 use mathlib.Core.Path.{_≡_, refl, sym, subst}
-use mathlib.Core.Bool.{Bool, true, false, cond, _&&_}
-use lib.Dec.{T, eqb, leb}
+use mathlib.Core.Bool.{Bool, true, false, _&&_}
+use lib.Dec.{T, leb}
 use lib.Ieee.{Float}
 use native.Mathlib.Omega.{arith}
 use borrow.Author.Tests.{leb-true}
-use Rattle.exact.specs.Float64.{+0}
 use Rattle.device.specs.declared.NodeId.{NodeId}
 use Rattle.device.specs.declared.Given.{Given}
 use Rattle.device.specs.declared.Discretisation.{Discretisation}
@@ -19,11 +18,6 @@ use Rattle.device.specs.declared.Histories.{Histories}
 use Rattle.device.specs.declared.Mosfet1.{Mosfet1}
 use Rattle.device.specs.declared.NodeId.the-variants.{Ground, At}
 use Rattle.device.specs.declared.Given.the-variants.{Absent, Value}
-use Rattle.device.specs.declared.Discretisation.the-variants as Discretisation
-use Rattle.device.specs.declared.Stage.the-variants as Stage
-use Rattle.record.specs.declared.NodeRecord.{NodeRecord}
-use Rattle.record.specs.declared.GivenRecord.{GivenRecord}
-use Rattle.record.specs.declared.MethodRecord.{MethodRecord}
 use Rattle.record.specs.declared.CardRecord.{CardRecord}
 use Rattle.record.specs.declared.TerminalsRecord.{TerminalsRecord}
 use Rattle.record.specs.declared.HistoryRecord.{HistoryRecord}

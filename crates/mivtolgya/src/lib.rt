@@ -17,7 +17,6 @@ use record_steps::ConditionsRecord;
 use record_steps::EvaluationReply;
 ghost use mathlib.Core.Path.{_≡_};
 ghost use lib.ListN.{length};
-ghost use Rattle.assembly.specs.Assembly.{Pattern};
 ghost use Rattle.record_card.specs.Keys.{cardCall, cardCallList, geometryCall, geometryCallList};
 ghost use Rattle.record_setup.specs.Setup.{scalingCall, bindingCall, extraNodesCall};
 ghost use Rattle.record_steps.specs.Steps.{evalCall, replyOf, commitCall};

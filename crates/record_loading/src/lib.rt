@@ -3,7 +3,6 @@ use loading::LoadAnswer;
 use loading::LoadKind;
 use record::DeviceRecord;
 ghost use mathlib.Core.Path.{_≡_};
-ghost use Rattle.assembly.specs.Assembly.{Pattern};
 ghost use Rattle.device.specs.Refusals.{number};
 ghost use Rattle.loading.specs.Loading.{outcomeOfLoad};
 ghost use Rattle.record_loading.specs.Load.{kindFrom, loadCall, loadedSide, loadedMatrix};

@@ -1,7 +1,6 @@
 // Looking up the cells of a device that is a record, and loading it by them.
 use record::DeviceRecord;
 ghost use mathlib.Core.Path.{_≡_};
-ghost use Rattle.assembly.specs.Assembly.{Pattern};
 ghost use Rattle.device.specs.Refusals.{number, valuesOr};
 ghost use Rattle.resolve.specs.Resolve.{noCells};
 ghost use Rattle.record_resolved.specs.Resolved.{resolveCall, loadResolvedCall, resolvedSide, resolvedMatrix};

@@ -7,7 +7,7 @@ use native.Mathlib.Omega.{arith}
 use lib.ListN.{length}
 use Rattle.pattern.specs.Pattern.{wellFormed}
 use Rattle.device.specs.Nodes.{anyNodeBeyond}
-use Rattle.device.specs.Refusals.{Outcome, done, refused, rowNumber, unless, _when_}
+use Rattle.device.specs.Refusals.{done, refused, rowNumber, unless, _when_}
 use Rattle.device.specs.Stages.{unbound}
 use Rattle.device.specs.declared.Stage.{Stage}
 use Rattle.device.specs.declared.Terminals.{Terminals}

@@ -6,7 +6,7 @@ use device::Terminals;
 use pattern::Found;
 use places::Nodes;
 ghost use mathlib.Core.Path.{_≡_};
-ghost use mathlib.Core.Bool.{true, _&&_};
+ghost use mathlib.Core.Bool.{true};
 ghost use mathlib.Core.List.{[], _∷_, _++_};
 ghost use lib.ListN.{length};
 ghost use Rattle.pattern.specs.Pattern.{wellFormed};
@@ -14,7 +14,6 @@ ghost use Rattle.device.specs.Refusals.{number, valuesOr};
 ghost use Rattle.device.specs.Stages.{unbound};
 ghost use Rattle.stamps.specs.Stamps.{jacPairsOf};
 ghost use Rattle.places.specs.Places.{numberOf, numbersOf};
-ghost use Rattle.assembly.specs.Assembly.{Pattern};
 ghost use Rattle.resolve.specs.Resolve.{gatePairsOf, resolveOf, noCells, earlyRowOf};
 
 // The cells, or the number of the row that refuses to look them up; they are zeros then.

@@ -1,31 +1,29 @@
 -- A load by the cells that `resolve` answered for a pattern is the load on that pattern: the same answer, the same two slices, for every
 -- device with the nodes of the one that the cells were looked up for. So whatever is proved of loads holds of these.
 use mathlib.Core.Path.{_≡_, refl, sym, ap, _∙_, subst}
-use mathlib.Core.Bool.{Bool, true, false, cond, not, _&&_}
-use mathlib.Core.List.{List, [], _∷_, _++_}
-use Prim.Native.Nat.{ℕ, _≤_, _<_}
-use native.Mathlib.Omega.{arith}
+use mathlib.Core.Bool.{Bool, true, false, not, _&&_}
+use mathlib.Core.List.{List, [], _∷_}
+use Prim.Native.Nat.{ℕ, _≤_}
 use lib.ListN.{length, getD}
 use lib.Dec.{eqb}
 use lib.Ieee.{Float}
 use borrow.Author.Tests.{eqb-true, eq-eqb}
 use Rattle.pattern.specs.Pattern.{wellFormed, pairsFit}
 use Rattle.pattern.proofs.Places.{cell-within}
-use Rattle.pattern.proofs.Rows.{and-left, and-right}
-use Rattle.device.specs.Nodes.{anyNodeBeyond}
+use Rattle.pattern.proofs.Rows.{and-right}
 use Rattle.device.specs.Refusals.{Outcome, done, refused, unless, _when_}
-use Rattle.device.specs.Stages.{unbound, unevaluated}
+use Rattle.device.specs.Stages.{unevaluated}
 use Rattle.device.proofs.Rows.{passed}
 use Rattle.device.specs.declared.Terminals.{Terminals}
 use Rattle.device.specs.declared.Mosfet1.{Mosfet1}
 use Rattle.stamps.specs.Stamps.{jacPairsOf, jacValuesOf}
 use Rattle.stamps.specs.declared.ChargeBranches.{ChargeBranches}
 use Rattle.places.specs.Places.{missingNumber, indexOf, numbersOf}
-use Rattle.assembly.specs.Assembly.{Pattern, Contribution, addCells, addSources, allThere, paired, branchCells, matrixContributions}
-use Rattle.loading.specs.Loading.{nodesOutside, alphaOutside, branchesOf, jacobianContributions, rhsContributions, loadOf, ifDone, Loaded}
+use Rattle.assembly.specs.Assembly.{Pattern, allThere, paired, branchCells, matrixContributions}
+use Rattle.loading.specs.Loading.{nodesOutside, alphaOutside, branchesOf, jacobianContributions, loadOf, ifDone, Loaded}
 use Rattle.loading.specs.declared.LoadKind.{LoadKind}
 use Rattle.resolve.specs.Resolve.{nodeNumbers, gatePairsOf, resolvedCells, numbersFrom, resolveRows, resolveOf}
-use Rattle.load_resolved.specs.LoadResolved.{madeFor, addStored, allStored, branchPlaces, storedPlaces, cellsHeld, loadResolvedOf, LoadedResolved}
+use Rattle.load_resolved.specs.LoadResolved.{madeFor, allStored, branchPlaces, storedPlaces, cellsHeld, loadResolvedOf, LoadedResolved}
 use Rattle.resolved_loads.proofs.SamePlaces.{Within, Same, list-same, join, branch-same}
 
 -- the contributions of a device and the places that were looked up for its nodes

@@ -1,5 +1,5 @@
 -- Contributions at the places that were looked up in a pattern: what is tested and what is added is as by the pattern itself.
-use mathlib.Core.Path.{_≡_, refl, sym, ap, _∙_, subst}
+use mathlib.Core.Path.{_≡_, refl, sym, ap, _∙_}
 use mathlib.Core.Bool.{Bool, true, false, cond, _&&_, _||_}
 use mathlib.Core.List.{List, [], _∷_, _++_}
 use Prim.Native.Nat.{ℕ, suc, _≤_, _<_}
@@ -19,7 +19,7 @@ use Rattle.stamps.specs.declared.Position.{Position}
 use Rattle.stamps.specs.declared.ChargeBranch.{ChargeBranch}
 use Rattle.places.specs.Places.{missingNumber, placeNumber, numberOf, numbersOf}
 use Rattle.adding.proofs.Adding.{add-outside}
-use Rattle.assembly.specs.Assembly.{Pattern, Contribution, Place, ground, at, foundPlace, placeOf, addPlace, addCells, there, allThere, paired, conductancePair, branchCells}
+use Rattle.assembly.specs.Assembly.{Pattern, Contribution, at, foundPlace, placeOf, addPlace, addCells, there, allThere, paired, conductancePair, branchCells}
 use Rattle.assembly.proofs.Cells.{cells-append, there-append, length-cells}
 use Rattle.load_resolved.specs.LoadResolved.{grounded, storedPlace, addStored, allStored, branchPlaces}
 use Rattle.load_resolved.proofs.Held.{stored-append, length-append}

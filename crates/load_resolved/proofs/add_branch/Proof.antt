@@ -5,9 +5,6 @@ use Rattle.load_resolved.specs.ByNumbers.{addBranch, addConductance}
 use borrow.Author.Needs.{needs}
 use Rattle.load_resolved.proofs.add_branch.Statement.{statement}
 use Rattle.load_resolved.proofs.add_branch.Tie as tie
-use Rattle.load_resolved.proofs.add_branch.Reads as reads
-use Rattle.load_resolved.proofs.add_branch.Lts as lts
-use Rattle.load_resolved.proofs.add_four.Reads as add-four-reads
 
 add-four-requires : tie.Need-add-four-requires
 add-four-requires c κs = search needs

@@ -6,9 +6,6 @@ use Rattle.load_resolved.proofs.Stored.{length-branches}
 use borrow.Author.Needs.{needs}
 use Rattle.load_resolved.proofs.add_branches.Statement.{statement}
 use Rattle.load_resolved.proofs.add_branches.Tie as tie
-use Rattle.load_resolved.proofs.add_branches.Reads as reads
-use Rattle.load_resolved.proofs.add_branches.Lts as lts
-use Rattle.load_resolved.proofs.branch_at.Reads as branch-at-reads
 
 branch-at-requires : tie.Need-branch-at-requires
 branch-at-requires c κs = search needs

@@ -8,10 +8,6 @@ use Rattle.load_resolved.proofs.Stored.{add-between}
 use borrow.Author.Needs.{needs}
 use Rattle.load_resolved.proofs.add_cell.Statement.{statement}
 use Rattle.load_resolved.proofs.add_cell.Tie as tie
-use Rattle.load_resolved.proofs.add_cell.Reads as reads
-use Rattle.load_resolved.proofs.add_cell.Lts as lts
-use Rattle.adding.proofs.add_at.Reads as add-at-reads
-use Rattle.load_resolved.proofs.place_between.Reads as place-between-reads
 
 place-between-requires : tie.Need-place-between-requires
 place-between-requires c κs = search needs

@@ -4,11 +4,6 @@ use Rattle.load_resolved.proofs.Stored.{channel-plain}
 use borrow.Author.Needs.{needs}
 use Rattle.load_resolved.proofs.add_channel.Statement.{statement}
 use Rattle.load_resolved.proofs.add_channel.Tie as tie
-use Rattle.load_resolved.proofs.add_channel.Reads as reads
-use Rattle.load_resolved.proofs.add_channel.Lts as lts
-use Rattle.load_resolved.proofs.add_channel_by_cell.Reads as add-channel-by-cell-reads
-use Rattle.load_resolved.proofs.add_channel_plain.Reads as add-channel-plain-reads
-use Rattle.load_resolved.proofs.any_ground.Reads as any-ground-reads
 
 any-ground-requires : tie.Need-any-ground-requires
 any-ground-requires c κs = search needs

@@ -8,9 +8,6 @@ use Rattle.load_resolved.proofs.Stored.{length-channel}
 use borrow.Author.Needs.{needs}
 use Rattle.load_resolved.proofs.add_channel_by_cell.Statement.{statement}
 use Rattle.load_resolved.proofs.add_channel_by_cell.Tie as tie
-use Rattle.load_resolved.proofs.add_channel_by_cell.Reads as reads
-use Rattle.load_resolved.proofs.add_channel_by_cell.Lts as lts
-use Rattle.load_resolved.proofs.add_cell.Reads as add-cell-reads
 
 element-copy-out-add-cell : tie.Need-element-copy-out-add-cell
 element-copy-out-add-cell c = search needs

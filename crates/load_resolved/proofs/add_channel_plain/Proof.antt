@@ -4,9 +4,6 @@ use Rattle.load_resolved.specs.LoadResolved.{numbersFrom}
 use borrow.Author.Needs.{needs}
 use Rattle.load_resolved.proofs.add_channel_plain.Statement.{statement}
 use Rattle.load_resolved.proofs.add_channel_plain.Tie as tie
-use Rattle.load_resolved.proofs.add_channel_plain.Reads as reads
-use Rattle.load_resolved.proofs.add_channel_plain.Lts as lts
-use Rattle.adding.proofs.add_at.Reads as add-at-reads
 
 element-copy-out-add-at : tie.Need-element-copy-out-add-at
 element-copy-out-add-at c = search needs

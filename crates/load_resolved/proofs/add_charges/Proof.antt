@@ -9,12 +9,6 @@ use Rattle.load_resolved.specs.ByNumbers.{addBranchesStored, historySour
 use borrow.Author.Needs.{needs}
 use Rattle.load_resolved.proofs.add_charges.Statement.{statement}
 use Rattle.load_resolved.proofs.add_charges.Tie as tie
-use Rattle.load_resolved.proofs.add_charges.Reads as reads
-use Rattle.load_resolved.proofs.add_charges.Lts as lts
-use Rattle.load_resolved.proofs.add_branches.Reads as add-branches-reads
-use Rattle.load_resolved.proofs.add_histories.Reads as add-histories-reads
-use Rattle.load_resolved.proofs.charge_branches.Reads as charge-branches-reads
-use Rattle.places.proofs.indices.Reads as indices-reads
 
 indices-requires : tie.Need-indices-requires
 indices-requires c κs = search needs

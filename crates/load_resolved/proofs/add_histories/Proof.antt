@@ -5,9 +5,6 @@ use Rattle.load_resolved.specs.ByNumbers.{historySources}
 use borrow.Author.Needs.{needs}
 use Rattle.load_resolved.proofs.add_histories.Statement.{statement}
 use Rattle.load_resolved.proofs.add_histories.Tie as tie
-use Rattle.load_resolved.proofs.add_histories.Reads as reads
-use Rattle.load_resolved.proofs.add_histories.Lts as lts
-use Rattle.adding.proofs.add_history.Reads as add-history-reads
 
 add-history-requires : tie.Need-add-history-requires
 add-history-requires c κs = search needs

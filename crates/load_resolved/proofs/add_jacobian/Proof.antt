@@ -5,11 +5,6 @@ use Rattle.load_resolved.proofs.Stored.{length-stored, jacobian-parts}
 use borrow.Author.Needs.{needs}
 use Rattle.load_resolved.proofs.add_jacobian.Statement.{statement}
 use Rattle.load_resolved.proofs.add_jacobian.Tie as tie
-use Rattle.load_resolved.proofs.add_jacobian.Reads as reads
-use Rattle.load_resolved.proofs.add_jacobian.Lts as lts
-use Rattle.load_resolved.proofs.add_channel.Reads as add-channel-reads
-use Rattle.load_resolved.proofs.pair_at.Reads as pair-at-reads
-use Rattle.load_resolved.proofs.series_at.Reads as series-at-reads
 
 add-channel-requires : tie.Need-add-channel-requires
 add-channel-requires c κs = search needs

@@ -5,11 +5,6 @@ use Rattle.load_resolved.proofs.NoConductance.{four-zeros, three-zeros,
 use borrow.Author.Needs.{needs}
 use Rattle.load_resolved.proofs.add_no_conductance.Statement.{statement}
 use Rattle.load_resolved.proofs.add_no_conductance.Tie as tie
-use Rattle.load_resolved.proofs.add_no_conductance.Reads as reads
-use Rattle.load_resolved.proofs.add_no_conductance.Lts as lts
-use Rattle.load_resolved.proofs.add_zero.Reads as add-zero-reads
-use Rattle.load_resolved.proofs.keep.Reads as keep-reads
-use Rattle.load_resolved.proofs.place_between.Reads as place-between-reads
 
 place-between-requires : tie.Need-place-between-requires
 place-between-requires c κs = search needs

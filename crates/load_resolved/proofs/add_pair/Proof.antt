@@ -7,11 +7,6 @@ use Rattle.load_resolved.proofs.Stored.{pair-plain}
 use borrow.Author.Needs.{needs}
 use Rattle.load_resolved.proofs.add_pair.Statement.{statement}
 use Rattle.load_resolved.proofs.add_pair.Tie as tie
-use Rattle.load_resolved.proofs.add_pair.Reads as reads
-use Rattle.load_resolved.proofs.add_pair.Lts as lts
-use Rattle.adding.proofs.add_at.Reads as add-at-reads
-use Rattle.load_resolved.proofs.add_cell.Reads as add-cell-reads
-use Rattle.load_resolved.proofs.either_ground.Reads as either-ground-reads
 
 either-ground-requires : tie.Need-either-ground-requires
 either-ground-requires c κs = search needs

@@ -3,10 +3,6 @@ use Rattle.stamps.specs.Stamps.{seriesOf}
 use borrow.Author.Needs.{needs}
 use Rattle.load_resolved.proofs.add_series.Statement.{statement}
 use Rattle.load_resolved.proofs.add_series.Tie as tie
-use Rattle.load_resolved.proofs.add_series.Reads as reads
-use Rattle.load_resolved.proofs.add_series.Lts as lts
-use Rattle.load_resolved.proofs.add_no_conductance.Reads as add-no-conductance-reads
-use Rattle.load_resolved.proofs.add_pair.Reads as add-pair-reads
 
 add-pair-requires : tie.Need-add-pair-requires
 add-pair-requires c κs = search needs

@@ -11,12 +11,6 @@ use Rattle.load_resolved.specs.LoadResolved.{numbersFrom, addStored}
 use borrow.Author.Needs.{needs}
 use Rattle.load_resolved.proofs.add_static.Statement.{statement}
 use Rattle.load_resolved.proofs.add_static.Tie as tie
-use Rattle.load_resolved.proofs.add_static.Reads as reads
-use Rattle.load_resolved.proofs.add_static.Lts as lts
-use Rattle.adding.proofs.add_offsets.Reads as add-offsets-reads
-use Rattle.load_resolved.proofs.add_jacobian.Reads as add-jacobian-reads
-use Rattle.places.proofs.indices.Reads as indices-reads
-use Rattle.stamps.proofs.residual_values.Reads as residual-values-reads
 
 indices-requires : tie.Need-indices-requires
 indices-requires c κs = search needs

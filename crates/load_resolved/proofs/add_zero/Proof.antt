@@ -5,9 +5,6 @@ use Rattle.load_resolved.proofs.NoConductance.{zero-stored}
 use borrow.Author.Needs.{needs}
 use Rattle.load_resolved.proofs.add_zero.Statement.{statement}
 use Rattle.load_resolved.proofs.add_zero.Tie as tie
-use Rattle.load_resolved.proofs.add_zero.Reads as reads
-use Rattle.load_resolved.proofs.add_zero.Lts as lts
-use Rattle.load_resolved.proofs.zero_added.Reads as zero-added-reads
 
 mul-zero-added : tie.Need-mul-zero-added
 mul-zero-added c = search needs

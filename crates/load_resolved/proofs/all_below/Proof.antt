@@ -8,8 +8,6 @@ use Rattle.load_resolved.specs.ByNumbers.{allBelow}
 use Rattle.load_resolved.proofs.Below.{not-below-here, below-here, none-left}
 use Rattle.load_resolved.proofs.all_below.Statement.{statement}
 use Rattle.load_resolved.proofs.all_below.Tie as tie
-use Rattle.load_resolved.proofs.all_below.Reads as reads
-use Rattle.load_resolved.proofs.all_below.Lts as lts
 
 abbrev Inv-loop : tie.InvT-loop
 Inv-loop cells len k₀ k = (k ≤ 37) × (allBelow len (numbersFrom cells 8 29) ≡ allBelow len (numbersFrom cells k (37 - k)))

@@ -2,9 +2,6 @@
 use borrow.Author.Needs.{needs}
 use Rattle.load_resolved.proofs.any_ground.Statement.{statement}
 use Rattle.load_resolved.proofs.any_ground.Tie as tie
-use Rattle.load_resolved.proofs.any_ground.Reads as reads
-use Rattle.load_resolved.proofs.any_ground.Lts as lts
-use Rattle.load_resolved.proofs.either_ground.Reads as either-ground-reads
 
 either-ground-requires : tie.Need-either-ground-requires
 either-ground-requires c κs = search needs

@@ -3,10 +3,6 @@ use Rattle.load_resolved.specs.ByNumbers.{branchStored}
 use borrow.Author.Needs.{needs}
 use Rattle.load_resolved.proofs.branch_there.Statement.{statement}
 use Rattle.load_resolved.proofs.branch_there.Tie as tie
-use Rattle.load_resolved.proofs.branch_there.Reads as reads
-use Rattle.load_resolved.proofs.branch_there.Lts as lts
-use Rattle.load_resolved.proofs.both.Reads as both-reads
-use Rattle.load_resolved.proofs.cell_there.Reads as cell-there-reads
 
 cell-there-requires : tie.Need-cell-there-requires
 cell-there-requires c κs = search needs

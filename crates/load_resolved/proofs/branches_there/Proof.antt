@@ -3,10 +3,6 @@ use Rattle.load_resolved.specs.ByNumbers.{branchesStored}
 use borrow.Author.Needs.{needs}
 use Rattle.load_resolved.proofs.branches_there.Statement.{statement}
 use Rattle.load_resolved.proofs.branches_there.Tie as tie
-use Rattle.load_resolved.proofs.branches_there.Reads as reads
-use Rattle.load_resolved.proofs.branches_there.Lts as lts
-use Rattle.load_resolved.proofs.both.Reads as both-reads
-use Rattle.load_resolved.proofs.branch_there.Reads as branch-there-reads
 
 element-copy-out-branch-there : tie.Need-element-copy-out-branch-there
 element-copy-out-branch-there c = search needs

@@ -8,12 +8,6 @@ use Rattle.load_resolved.proofs.Below.{pairs-held, branches-held}
 use borrow.Author.Needs.{needs}
 use Rattle.load_resolved.proofs.cells_held.Statement.{statement}
 use Rattle.load_resolved.proofs.cells_held.Tie as tie
-use Rattle.load_resolved.proofs.cells_held.Reads as reads
-use Rattle.load_resolved.proofs.cells_held.Lts as lts
-use Rattle.load_resolved.proofs.all_below.Reads as all-below-reads
-use Rattle.load_resolved.proofs.branches_there.Reads as branches-there-reads
-use Rattle.load_resolved.proofs.nodes_are.Reads as nodes-are-reads
-use Rattle.load_resolved.proofs.pairs_there.Reads as pairs-there-reads
 
 cond-same : (b : Bool) → true ≡ cond b true true
 cond-same true = refl

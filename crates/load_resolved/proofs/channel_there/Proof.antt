@@ -2,10 +2,6 @@
 use borrow.Author.Needs.{needs}
 use Rattle.load_resolved.proofs.channel_there.Statement.{statement}
 use Rattle.load_resolved.proofs.channel_there.Tie as tie
-use Rattle.load_resolved.proofs.channel_there.Reads as reads
-use Rattle.load_resolved.proofs.channel_there.Lts as lts
-use Rattle.load_resolved.proofs.both.Reads as both-reads
-use Rattle.load_resolved.proofs.cell_there.Reads as cell-there-reads
 
 element-copy-out-cell-there : tie.Need-element-copy-out-cell-there
 element-copy-out-cell-there c = search needs

@@ -3,13 +3,6 @@ use Rattle.stamps.proofs.Records.{branches-same}
 use borrow.Author.Needs.{needs}
 use Rattle.load_resolved.proofs.charge_branches.Statement.{statement}
 use Rattle.load_resolved.proofs.charge_branches.Tie as tie
-use Rattle.load_resolved.proofs.charge_branches.Reads as reads
-use Rattle.load_resolved.proofs.charge_branches.Lts as lts
-use Rattle.stamps.proofs.bd_branch.Reads as bd-branch-reads
-use Rattle.stamps.proofs.bs_branch.Reads as bs-branch-reads
-use Rattle.stamps.proofs.gb_branch.Reads as gb-branch-reads
-use Rattle.stamps.proofs.gd_branch.Reads as gd-branch-reads
-use Rattle.stamps.proofs.gs_branch.Reads as gs-branch-reads
 
 gs-branch-requires : tie.Need-gs-branch-requires
 gs-branch-requires c κs = search needs

@@ -2,8 +2,6 @@
 use borrow.Author.Tests.{eq-eqb, ne-eqb}
 use Rattle.load_resolved.proofs.either_ground.Statement.{statement}
 use Rattle.load_resolved.proofs.either_ground.Tie as tie
-use Rattle.load_resolved.proofs.either_ground.Reads as reads
-use Rattle.load_resolved.proofs.either_ground.Lts as lts
 
 returns : tie.Need-returns
 returns c = simp (eq-eqb _ 18446744073709551615 (c .if1 .taken))

@@ -5,9 +5,6 @@ use Rattle.load_resolved.proofs.NoConductance.{unchanged}
 use borrow.Author.Needs.{needs}
 use Rattle.load_resolved.proofs.keep.Statement.{statement}
 use Rattle.load_resolved.proofs.keep.Tie as tie
-use Rattle.load_resolved.proofs.keep.Reads as reads
-use Rattle.load_resolved.proofs.keep.Lts as lts
-use Rattle.load_resolved.proofs.kept.Reads as kept-reads
 
 mul-kept : tie.Need-mul-kept
 mul-kept c = search needs

@@ -4,8 +4,6 @@ use lib.Dec.{T}
 use Rattle.load_resolved.proofs.Zero.{minus-zero}
 use Rattle.load_resolved.proofs.kept.Statement.{statement}
 use Rattle.load_resolved.proofs.kept.Tie as tie
-use Rattle.load_resolved.proofs.kept.Reads as reads
-use Rattle.load_resolved.proofs.kept.Lts as lts
 
 returns : tie.Need-returns
 returns c = minus-zero _ (subst T (sym (c .good .0 .1)) tt)

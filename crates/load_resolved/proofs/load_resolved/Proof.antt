@@ -17,11 +17,6 @@ use Rattle.load_resolved.proofs.Parts.{refused-row, accepted-row, nodes
 use borrow.Author.Needs.{needs}
 use Rattle.load_resolved.proofs.load_resolved.Statement.{statement}
 use Rattle.load_resolved.proofs.load_resolved.Tie as tie
-use Rattle.load_resolved.proofs.load_resolved.Reads as reads
-use Rattle.load_resolved.proofs.load_resolved.Lts as lts
-use Rattle.load_resolved.proofs.add_charges.Reads as add-charges-reads
-use Rattle.load_resolved.proofs.add_static.Reads as add-static-reads
-use Rattle.load_resolved.proofs.resolved_row.Reads as resolved-row-reads
 
 -- the function's start, seen from where the rows are known
 abbrev start : tie.After-resolved-row → tie.Start

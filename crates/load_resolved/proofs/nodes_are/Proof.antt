@@ -3,9 +3,6 @@ use Rattle.load_resolved.specs.ByNumbers.{nodesAre}
 use borrow.Author.Needs.{needs}
 use Rattle.load_resolved.proofs.nodes_are.Statement.{statement}
 use Rattle.load_resolved.proofs.nodes_are.Tie as tie
-use Rattle.load_resolved.proofs.nodes_are.Reads as reads
-use Rattle.load_resolved.proofs.nodes_are.Lts as lts
-use Rattle.load_resolved.proofs.both.Reads as both-reads
 
 element-copy-out-both : tie.Need-element-copy-out-both
 element-copy-out-both c = search needs

@@ -11,10 +11,6 @@ use Rattle.load_resolved.specs.ByNumbers.{pairsStored, cellThere}
 use borrow.Author.Needs.{needs}
 use Rattle.load_resolved.proofs.pairs_there.Statement.{statement}
 use Rattle.load_resolved.proofs.pairs_there.Tie as tie
-use Rattle.load_resolved.proofs.pairs_there.Reads as reads
-use Rattle.load_resolved.proofs.pairs_there.Lts as lts
-use Rattle.load_resolved.proofs.channel_there.Reads as channel-there-reads
-use Rattle.load_resolved.proofs.four_there.Reads as four-there-reads
 
 element-copy-out-four-there : tie.Need-element-copy-out-four-there
 element-copy-out-four-there c = search needs

@@ -3,8 +3,6 @@ use borrow.Author.Tests.{eq-eqb, ne-eqb}
 use Rattle.load_resolved.specs.ByNumbers.{placeBetween}
 use Rattle.load_resolved.proofs.place_between.Statement.{statement}
 use Rattle.load_resolved.proofs.place_between.Tie as tie
-use Rattle.load_resolved.proofs.place_between.Reads as reads
-use Rattle.load_resolved.proofs.place_between.Lts as lts
 
 returns : tie.Need-returns
 unfolding placeBetween

@@ -18,12 +18,6 @@ use Rattle.load_resolved.proofs.Outcomes.{early-first, fifth}
 use borrow.Author.Needs.{needs}
 use Rattle.load_resolved.proofs.resolved_row.Statement.{statement}
 use Rattle.load_resolved.proofs.resolved_row.Tie as tie
-use Rattle.load_resolved.proofs.resolved_row.Reads as reads
-use Rattle.load_resolved.proofs.resolved_row.Lts as lts
-use Rattle.load_resolved.proofs.cells_held.Reads as cells-held-reads
-use Rattle.load_resolved.proofs.early_row.Reads as early-row-reads
-use Rattle.load_resolved.proofs.is_transient.Reads as is-transient-reads
-use Rattle.places.proofs.indices.Reads as indices-reads
 
 element-copy-out-rows : tie.Need-element-copy-out-rows
 element-copy-out-rows c = search needs

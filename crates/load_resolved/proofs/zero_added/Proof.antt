@@ -4,8 +4,6 @@ use lib.Dec.{T}
 use Rattle.load_resolved.proofs.Zero.{zero-again}
 use Rattle.load_resolved.proofs.zero_added.Statement.{statement}
 use Rattle.load_resolved.proofs.zero_added.Tie as tie
-use Rattle.load_resolved.proofs.zero_added.Reads as reads
-use Rattle.load_resolved.proofs.zero_added.Lts as lts
 
 returns : tie.Need-returns
 returns c = (refl, zero-again _ (subst T (sym (c .good .0 .1)) tt))

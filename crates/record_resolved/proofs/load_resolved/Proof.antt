@@ -6,13 +6,6 @@ use Rattle.record_resolved.specs.Resolved.{loadResolvedCall, resolvedSid
 use borrow.Author.Needs.{needs}
 use Rattle.record_resolved.proofs.load_resolved.Statement.{statement}
 use Rattle.record_resolved.proofs.load_resolved.Tie as tie
-use Rattle.record_resolved.proofs.load_resolved.Reads as reads
-use Rattle.record_resolved.proofs.load_resolved.Lts as lts
-use Rattle.from_record.proofs.device_from.Reads as device-from-reads
-use Rattle.from_record.proofs.good_tags.Reads as good-tags-at-once-reads
-use Rattle.load_resolved.proofs.load_resolved.Reads as load-resolved-reads
-use Rattle.record_loading.proofs.kind_from.Reads as kind-from-reads
-use Rattle.record_loading.proofs.load_number.Reads as load-number-reads
 
 good-tags-at-once-requires : tie.Need-good-tags-at-once-requires
 good-tags-at-once-requires c κs = search needs

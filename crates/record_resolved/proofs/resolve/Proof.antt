@@ -5,13 +5,6 @@ use Rattle.record_resolved.specs.Resolved.{resolveCall}
 use borrow.Author.Needs.{needs}
 use Rattle.record_resolved.proofs.resolve.Statement.{statement}
 use Rattle.record_resolved.proofs.resolve.Tie as tie
-use Rattle.record_resolved.proofs.resolve.Reads as reads
-use Rattle.record_resolved.proofs.resolve.Lts as lts
-use Rattle.from_record.proofs.device_from.Reads as device-from-reads
-use Rattle.from_record.proofs.good_tags.Reads as good-tags-reads
-use Rattle.record.proofs.wide.Reads as wide-reads
-use Rattle.record_resolved.proofs.unknown_tag.Reads as unknown-tag-reads
-use Rattle.resolve.proofs.resolve.Reads as resolve-reads
 
 good-tags-requires : tie.Need-good-tags-requires
 good-tags-requires c κs = search needs

@@ -5,11 +5,6 @@ use Rattle.resolve.proofs.Outcomes.{outside-same}
 use borrow.Author.Needs.{needs}
 use Rattle.resolve.proofs.early_row.Statement.{statement}
 use Rattle.resolve.proofs.early_row.Tie as tie
-use Rattle.resolve.proofs.early_row.Reads as reads
-use Rattle.resolve.proofs.early_row.Lts as lts
-use Rattle.loading.proofs.nodes_outside.Reads as nodes-outside-reads
-use Rattle.pattern.proofs.well_formed.Reads as well-formed-reads
-use Rattle.resolve.proofs.unbound.Reads as unbound-reads
 
 nodes-outside-requires : tie.Need-nodes-outside-requires
 nodes-outside-requires c κs = search needs

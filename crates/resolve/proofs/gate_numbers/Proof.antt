@@ -3,12 +3,8 @@ use mathlib.Core.Path.{refl}
 use Rattle.places.specs.Places.{numbersOf}
 use Rattle.places.proofs.Spans.{_∷≡_}
 use Rattle.resolve.specs.Resolve.{gatePairsOf}
-use borrow.Author.Needs.{needs}
 use Rattle.resolve.proofs.gate_numbers.Statement.{statement}
 use Rattle.resolve.proofs.gate_numbers.Tie as tie
-use Rattle.resolve.proofs.gate_numbers.Reads as reads
-use Rattle.resolve.proofs.gate_numbers.Lts as lts
-use Rattle.resolve.proofs.number.Reads as number-reads
 
 number-requires : tie.Need-number-requires
 number-requires c κs = c .before .before .before .pre

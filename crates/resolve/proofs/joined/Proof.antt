@@ -6,8 +6,6 @@ use Rattle.resolve.proofs.Listed.{joined-list}
 use borrow.Author.Needs.{needs}
 use Rattle.resolve.proofs.joined.Statement.{statement}
 use Rattle.resolve.proofs.joined.Tie as tie
-use Rattle.resolve.proofs.joined.Reads as reads
-use Rattle.resolve.proofs.joined.Lts as lts
 
 array-read-t10 : tie.Need-array-read-t10
 array-read-t10 c = search needs

@@ -3,9 +3,6 @@ use Rattle.places.specs.Places.{foundPlace, placeOf, placeNumber}
 use borrow.Author.Needs.{needs}
 use Rattle.resolve.proofs.number.Statement.{statement}
 use Rattle.resolve.proofs.number.Tie as tie
-use Rattle.resolve.proofs.number.Reads as reads
-use Rattle.resolve.proofs.number.Lts as lts
-use Rattle.pattern.proofs.cell.Reads as cell-reads
 
 enum-told : tie.Need-enum-told
 enum-told c = search needs

@@ -1,5 +1,5 @@
 -- `resolve::resolve`: the early rows, then the 24 pairs, then all numbers in their order.
-use mathlib.Core.Path.{_≡_, refl, sym, ap, _∙_}
+use mathlib.Core.Path.{_≡_, sym, ap, _∙_}
 use native.Mathlib.Omega.{arith}
 use denote.Ref.{now}
 use borrow.Author.Tests.{not-true, not-false}
@@ -13,15 +13,6 @@ use Rattle.resolve.proofs.Outcomes.{refused-early, early-well, pairs-th
 use borrow.Author.Needs.{needs}
 use Rattle.resolve.proofs.resolve.Statement.{statement}
 use Rattle.resolve.proofs.resolve.Tie as tie
-use Rattle.resolve.proofs.resolve.Reads as reads
-use Rattle.resolve.proofs.resolve.Lts as lts
-use Rattle.places.proofs.indices.Reads as indices-reads
-use Rattle.places.proofs.none_missing.Reads as none-missing-reads
-use Rattle.resolve.proofs.early_row.Reads as early-row-reads
-use Rattle.resolve.proofs.gate_numbers.Reads as gate-numbers-reads
-use Rattle.resolve.proofs.joined.Reads as joined-reads
-use Rattle.resolve.proofs.pair_numbers.Reads as pair-numbers-reads
-use Rattle.resolve.proofs.refused.Reads as refused-reads
 
 -- the device and the pattern, seen from where the early rows are known
 abbrev device : tie.After-early-row → Mosfet1

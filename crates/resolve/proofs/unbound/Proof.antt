@@ -3,9 +3,6 @@ use Rattle.device.specs.Stages.{unbound}
 use borrow.Author.Needs.{needs}
 use Rattle.resolve.proofs.unbound.Statement.{statement}
 use Rattle.resolve.proofs.unbound.Tie as tie
-use Rattle.resolve.proofs.unbound.Reads as reads
-use Rattle.resolve.proofs.unbound.Lts as lts
-use Rattle.device.proofs.before.Reads as before-reads
 
 before-requires : tie.Need-before-requires
 before-requires c κs = search needs
