@@ -1,12 +1,12 @@
 /* The SPICE Level-1 MOSFET model: its calls for C and C++ on x86-64 Linux. Link libmivtolgya.a (`rt staticlib mivtolgya` writes it
  * to target/staticlib/). docs/USING.md has the order of the calls, the table of refusals, the keys with their ranges, and memory.
  *
- * A device is a record in the caller's memory. A call before the loop takes it by value and answers the record that is to take its
- * place, with the number of the refusal: MIVTOLGYA_ACCEPTED, or one of MIVTOLGYA_REFUSED_.. below. After a refusal the record answered
- * is the one handed in and nothing lent was written. Evaluation, load and commit stand over the record where it lies (`_in_place`):
- * only what changes is written and nothing is copied. mivtolgya_load_resolved takes the place of the load where the matrix is large:
- * its cells are looked up once, by mivtolgya_resolve. mivtolgya_eval, mivtolgya_load and mivtolgya_commit_timestep, inline at the end
- * of this file, are the same calls on a copy of the record.
+ * A device is a record in the caller's memory. Every call answers the number of the refusal: MIVTOLGYA_ACCEPTED, or one of
+ * MIVTOLGYA_REFUSED_.. below. Evaluation, load and commit stand over the record where it lies (`_in_place`): only what changes is
+ * written, nothing is copied, and after a refusal nothing was written. mivtolgya_load_resolved takes the place of the load where the
+ * matrix is large: its cells are looked up once, by mivtolgya_resolve. The other calls take the record by value, and one that changes
+ * it answers the record that is to take its place, after a refusal the one handed in; nothing lent was then written. mivtolgya_eval,
+ * mivtolgya_load and mivtolgya_commit_timestep, inline at the end of this file, are evaluation, load and commit on a copy.
  *
  * Rules of every pointer. A lent slice is a pointer and the count of its elements. The pointer is not null, also where the count is
  * 0, and aligned for its element: 8 bytes for double and size_t, 4 for uint32_t. A slice that is only read (const) may overlap other
@@ -713,7 +713,7 @@ static inline uint64_t mivtolgya_bind(mivtolgya_device *device, mivtolgya_nodes 
     return mivtolgya_keep(device, o.refusal, &o.device);
 }
 
-/* ---- the calls of the loop by value: each is the call in place on a copy of the record. A refused one answers the record handed in */
+/* ---- evaluation, load and commit by value: the call in place on a copy. A refused one answers the record handed in */
 
 static inline mivtolgya_evaluation_outcome mivtolgya_eval(
     mivtolgya_device device,

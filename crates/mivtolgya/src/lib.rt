@@ -1,8 +1,8 @@
 // The calls for C and Rust on x86-64 (include/mivtolgya.h). A lent slice is a pointer and a length. Each is the call of the same name
 // on records, whose definitions say what is answered and what the lent slices hold afterwards.
-// The calls before the loop take the caller's record by value and answer the record that is to take its place. Those of the loop,
-// evaluation, both loads and commit, stand over the record where it lies and write only what changes: each large function below has
-// one caller, so the compiler makes one function of a call, which reads of the record what it needs and copies nothing.
+// Evaluation, both loads and commit, the calls of the loop, stand over the record where it lies and write only what changes. Each
+// large function below them has one caller, so the compiler makes one function of a call, which reads of the record what it needs and
+// copies nothing. The other calls take the record by value, and one that changes it answers the record that is to take its place.
 use record::DeviceOutcome;
 use record::DeviceRecord;
 use record_card::KeysOutcome;
@@ -119,7 +119,7 @@ pub extern "C" fn mivtolgya_small_signal_reactances(device: DeviceRecord) -> Rea
 
 // ---- the calls of the loop on a record where it lies
 
-// `mivtolgya_eval`. Only the parts that an evaluation changes are written: the charges with the transient flag alone, and nothing
+// Only the parts that an evaluation changes are written: the charges with the transient flag alone, and nothing
 // where it is refused. The stage of an evaluated device is 5.
 #[no_mangle]
 pub extern "C" fn mivtolgya_eval_in_place(
@@ -149,7 +149,7 @@ pub extern "C" fn mivtolgya_eval_in_place(
     }
 }
 
-// `mivtolgya_load`. The record is only read.
+// The record is only read.
 #[no_mangle]
 pub extern "C" fn mivtolgya_load_in_place(
     device: &DeviceRecord,
@@ -169,7 +169,7 @@ pub extern "C" fn mivtolgya_load_in_place(
     record_loading::load(r, transient, alpha, rhs, values, columns, offsets, lengths)
 }
 
-// `mivtolgya_commit_timestep`. Only the parts that a commit changes are written, and none where it is refused.
+// Only the parts that a commit changes are written, and none where it is refused.
 #[no_mangle]
 pub extern "C" fn mivtolgya_commit_in_place(device: &mut DeviceRecord, x: &[f64]) -> u64
     ensures { λ o. ⌜ (o ≡ commitCall (now (device .entry)) (now (x .entry)) .refusal)
