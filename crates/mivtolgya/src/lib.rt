@@ -130,13 +130,17 @@ pub extern "C" fn mivtolgya_eval_in_place(
     ensures { λ o. ⌜ (o ≡ replyOf (evalCall (now (device .entry)) (now (x .entry)) conditions))
         × (now (device .exit) ≡ evalCall (now (device .entry)) (now (x .entry)) conditions .device) ⌝ }
 {
-    let old = *device;
-    match record_steps::evaluate(old, x, conditions) {
-        ChangesOrRefusal::Changes(changes) => {
+    let asked = *device;
+    let at = record_steps::read_voltages(asked, x, conditions);
+    let held = *device;
+    match record_steps::evaluate(held, at, conditions) {
+        ChangesOrRefusal::Transient(changes) => {
+            let charged = *device;
+            let charges = record_steps::charges(charged, at, changes);
             device.point = changes.point;
-            device.charges = changes.charges;
+            device.charges = charges;
             device.method = changes.method;
-            device.stage = changes.stage;
+            device.stage = 5;
             changes.reply
         }
         ChangesOrRefusal::DirectCurrent(changes) => {

@@ -7,13 +7,14 @@ use mathlib.Core.List.{List}
 use lib.Dec.{eqb}
 use lib.Ieee.{Float}
 use Rattle.device.specs.Refusals.{Outcome, done, refused}
+use Rattle.device.specs.declared.Charges.{Charges}
 use Rattle.device.specs.declared.Mosfet1.{Mosfet1}
 use Rattle.bias.specs.declared.Voltages.{Voltages}
 use Rattle.mosfet1.specs.Steps.{evaluatedChargesOf, evaluatedFromOf, evaluatedOf}
 use Rattle.mosfet1.specs.declared.steps.Conditions.{Conditions}
-use Rattle.mosfet1.specs.declared.steps.Evaluated.{Evaluated}
-use Rattle.rows.specs.Rows.{voltagesOf, evalRows}
-use Rattle.device.proofs.Rows.{unless-either}
+use Rattle.rows.specs.Rows.{voltagesOf, evalRows, evalRowOf}
+use Rattle.device.proofs.Rows.{unless-either, by-number}
+use Rattle.model.proofs.ByRow.{eval-by-row}
 use Rattle.model.specs.Calls.{evalOf, commitOf}
 use Rattle.record.specs.declared.DeviceOutcome.{DeviceOutcome}
 use Rattle.record.specs.declared.DeviceRecord.{DeviceRecord}
@@ -21,75 +22,90 @@ use Rattle.from_record.specs.Devices.{deviceFrom}
 use Rattle.from_record.specs.Tags.{goodTags}
 use Rattle.record_steps.specs.declared.ConditionsRecord.{ConditionsRecord}
 use Rattle.record_steps.specs.declared.EvaluationReply.{EvaluationReply}
+use Rattle.record_steps.specs.declared.Reading.{Reading}
 use Rattle.record_steps.specs.declared.EvaluationChanges.{EvaluationChanges}
-use Rattle.record_steps.specs.declared.DirectCurrentChanges.{DirectCurrentChanges}
 use Rattle.record_steps.specs.declared.ChangesOrRefusal.{ChangesOrRefusal}
-use Rattle.record_steps.specs.declared.ChangesOrRefusal.the-variants.{Changes, DirectCurrent, Refusal}
+use Rattle.record_steps.specs.declared.ChangesOrRefusal.the-variants.{Transient, DirectCurrent, Refusal}
 use Rattle.record_steps.specs.declared.CommitChanges.{CommitChanges}
 use Rattle.record_steps.specs.declared.CommitAnswer.{CommitAnswer}
 use Rattle.record_steps.specs.declared.CommitAnswer.the-variants as CommitAnswer
-use Rattle.record_steps.specs.Steps.{EvaluationOutcome, goodConditions, conditionsFrom, refusedReply, refusedEvaluation, evaluatedRecord, evaluatedOutcome, evaluationOutcome, evalCall, replyOf, changedRecord, directCurrentRecord, outcomeFrom, evaluatedChanges, directCurrentGiven, evaluationGiven, evaluateOf, committedRecord, commitOutcome, commitCall, advancedRecord, commitGiven, commitRecordOf, commitOutcomeFrom}
+use Rattle.record_steps.specs.Steps.{EvaluationOutcome, goodConditions, conditionsFrom, refusedReply, refusedReading, refusedEvaluation, readOf, readingOf, evaluatedRecord, evaluatedOutcome, evaluationOutcome, evalCall, replyOf, changedRecord, outcomeFrom, evaluatedChanges, evaluateOf, chargesFrom, committedRecord, commitOutcome, commitCall, advancedRecord, commitGiven, commitRecordOf, commitOutcomeFrom}
 
 -- ---- the evaluation
 
-made-either : (r : DeviceRecord) (b : Bool) (c d : ChangesOrRefusal) (o p : EvaluationOutcome) → outcomeFrom r c ≡ o → outcomeFrom r d ≡ p → outcomeFrom r (cond b c d) ≡ cond b o p
-made-either r true c d o p h k = h
-made-either r false c d o p h k = k
+-- what was read by the number of the row that refuses, 0 where none does
+pub read-by-row : (d : Mosfet1) (x : List Float) (k : Conditions) → readOf d x k ≡ cond (eqb (evalRowOf (d .stage) (d .terminals) x (k .temperature) (k .gmin) (k .method)) 0) (record { row = 0; voltages = voltagesOf x (d .terminals) }) (refusedReading (evalRowOf (d .stage) (d .terminals) x (k .temperature) (k .gmin) (k .method)))
+unfolding readOf evalRowOf
+read-by-row d x k = by-number (evalRows (d .stage) (d .terminals) x (k .temperature) (k .gmin) (k .method)) refusedReading _ tt
 
--- what an evaluation gives to be stored makes its outcome
-Made : DeviceRecord → Bool → Outcome Evaluated → Type 0
-Made r t a = outcomeFrom r (evaluationGiven t a) ≡ evaluationOutcome r a
+-- what is read and then given to be stored makes the outcome a
+Made : DeviceRecord → ConditionsRecord → Reading → EvaluationOutcome → Type 0
+Made r k at o = outcomeFrom r at (evaluateOf r at k) ≡ o
 
--- without the transient flag the device's charges are those of the record
-made-done : (r : DeviceRecord) (v : Voltages) (t : Bool) (k : Conditions) → Made r t (done (evaluatedOf (deviceFrom r) v t k))
-unfolding Made outcomeFrom evaluationGiven evaluatedChanges directCurrentGiven changedRecord directCurrentRecord evaluationOutcome evaluatedOutcome evaluatedRecord evaluatedOf evaluatedFromOf evaluatedChargesOf deviceFrom
-made-done r v true k = refl
-made-done r v false k = refl
+made-refused : (r : DeviceRecord) (k : ConditionsRecord) (n : ℕ) → eqb n 0 ≡ false → Made r k (refusedReading n) (refusedEvaluation r n)
+unfolding Made outcomeFrom evaluateOf refusedReading refusedReply refusedEvaluation
+made-refused r k n e = rw (e)
 
-made-refused : (r : DeviceRecord) (t : Bool) (n : ℕ) → Made r t (refused n)
-unfolding Made outcomeFrom evaluationGiven refusedReply evaluationOutcome refusedEvaluation
-made-refused r t n = refl
+-- with the transient flag the charges come on top; without it the device's charges are those of the record
+made-by-flag : (r : DeviceRecord) (v : Voltages) (k : Conditions) (t : Bool) → outcomeFrom r (record { row = 0; voltages = v }) (cond t (Transient (evaluatedChanges (evaluatedOf (deviceFrom r) v false k))) (DirectCurrent (evaluatedChanges (evaluatedOf (deviceFrom r) v false k)))) ≡ evaluatedOutcome r (evaluatedOf (deviceFrom r) v t k)
+unfolding outcomeFrom chargesFrom changedRecord evaluatedChanges evaluatedOutcome evaluatedRecord evaluatedOf evaluatedFromOf evaluatedChargesOf deviceFrom
+made-by-flag r v k true = refl
+made-by-flag r v k false = refl
 
-made-given : (r : DeviceRecord) (x : List Float) (t : Bool) (k : Conditions) → Made r t (evalOf (deviceFrom r) x t k)
-unfolding evalOf
-made-given r x t k =
+made-done : (r : DeviceRecord) (v : Voltages) (k : ConditionsRecord) → Made r k (record { row = 0; voltages = v }) (evaluatedOutcome r (evaluatedOf (deviceFrom r) v (eqb (k .transient) 1) (conditionsFrom k)))
+unfolding Made evaluateOf
+made-done r v k = made-by-flag r v (conditionsFrom k) (eqb (k .transient) 1)
+
+made-by-row : (r : DeviceRecord) (x : List Float) (k : ConditionsRecord) (v : Voltages) (n : ℕ) (b : Bool) → eqb n 0 ≡ b
+    → Made r k (cond b (record { row = 0; voltages = v }) (refusedReading n)) (evaluationOutcome r (cond b (done (evaluatedOf (deviceFrom r) v (eqb (k .transient) 1) (conditionsFrom k))) (refused n)))
+unfolding evaluationOutcome
+made-by-row r x k v n true e = made-done r v k
+made-by-row r x k v n false e = made-refused r k n e
+
+made-read : (r : DeviceRecord) (x : List Float) (k : ConditionsRecord) → Made r k (readOf (deviceFrom r) x (conditionsFrom k)) (evaluationOutcome r (evalOf (deviceFrom r) x (eqb (k .transient) 1) (conditionsFrom k)))
+made-read r x k =
     let d = deviceFrom r in
-    unless-either (Made r t) (evalRows (d .stage) (d .terminals) x (k .temperature) (k .gmin) (k .method)) refused _ (made-refused r t) (made-done r (voltagesOf x (d .terminals)) t k)
+    let c = conditionsFrom k in
+    rw (read-by-row d x c, eval-by-row d x (eqb (k .transient) 1) c) (made-by-row r x k (voltagesOf x (d .terminals)) (evalRowOf (d .stage) (d .terminals) x (c .temperature) (c .gmin) (c .method)) _ refl)
 
-pub evaluation-made : (r : DeviceRecord) (x : List Float) (k : ConditionsRecord) → outcomeFrom r (evaluateOf r x k) ≡ evalCall r x k
-unfolding evaluateOf evalCall outcomeFrom changedRecord refusedReply refusedEvaluation Made
+made-either : (r : DeviceRecord) (k : ConditionsRecord) (b : Bool) (c d : Reading) (o p : EvaluationOutcome) → Made r k c o → Made r k d p → Made r k (cond b c d) (cond b o p)
+made-either r k true c d o p h g = h
+made-either r k false c d o p h g = g
+
+pub evaluation-made : (r : DeviceRecord) (x : List Float) (k : ConditionsRecord) → outcomeFrom r (readingOf r x k) (evaluateOf r (readingOf r x k) k) ≡ evalCall r x k
+unfolding readingOf evalCall Made
 evaluation-made r x k =
-    made-either r (goodTags r) _ _ _ _
-    (made-either r (goodConditions k) _ _ _ _ (made-given r x (eqb (k .transient) 1) (conditionsFrom k)) refl)
-    refl
+    made-either r k (goodTags r) _ _ _ _
+    (made-either r k (goodConditions k) _ _ _ _ (made-read r x k) (made-refused r k 100 refl))
+    (made-refused r k 100 refl)
 
-pub evaluation-outcome : (r : DeviceRecord) (x : List Float) (k : ConditionsRecord) (c : ChangesOrRefusal) → c ≡ evaluateOf r x k → outcomeFrom r c ≡ evalCall r x k
-evaluation-outcome r x k c e = ap (outcomeFrom r) e ∙ evaluation-made r x k
+pub evaluation-outcome : (r : DeviceRecord) (x : List Float) (k : ConditionsRecord) (at : Reading) (c : ChangesOrRefusal) → at ≡ readingOf r x k → c ≡ evaluateOf r at k → outcomeFrom r at c ≡ evalCall r x k
+evaluation-outcome r x k at c e f = ap (outcomeFrom r at) f ∙ ap (λ (g : Reading). outcomeFrom r g (evaluateOf r g k)) e ∙ evaluation-made r x k
 
 -- what holds of an evaluation's changes, and of its refusal, from the outcome that they make with the record handed in
-pub reply-of-changes : (r : DeviceRecord) (c : EvaluationChanges) (o : EvaluationOutcome) → outcomeFrom r (Changes c) ≡ o → c .reply ≡ replyOf o
+pub reply-of-transient : (r : DeviceRecord) (at : Reading) (c : EvaluationChanges) (o : EvaluationOutcome) → outcomeFrom r at (Transient c) ≡ o → c .reply ≡ replyOf o
 unfolding outcomeFrom replyOf
-reply-of-changes r c o e = ap replyOf e
+reply-of-transient r at c o e = ap replyOf e
 
-pub device-of-changes : (r : DeviceRecord) (c : EvaluationChanges) (o : EvaluationOutcome) → outcomeFrom r (Changes c) ≡ o → changedRecord r c ≡ o .device
+pub device-of-transient : (r : DeviceRecord) (at : Reading) (c : EvaluationChanges) (q : Charges) (o : EvaluationOutcome) → q ≡ chargesFrom r at c → outcomeFrom r at (Transient c) ≡ o → changedRecord r c q ≡ o .device
 unfolding outcomeFrom
-device-of-changes r c o e = ap (λ (p : EvaluationOutcome). p .device) e
+device-of-transient r at c q o f e = ap (changedRecord r c) f ∙ ap (λ (p : EvaluationOutcome). p .device) e
 
-pub reply-of-direct-current : (r : DeviceRecord) (c : DirectCurrentChanges) (o : EvaluationOutcome) → outcomeFrom r (DirectCurrent c) ≡ o → c .reply ≡ replyOf o
+pub reply-of-direct-current : (r : DeviceRecord) (at : Reading) (c : EvaluationChanges) (o : EvaluationOutcome) → outcomeFrom r at (DirectCurrent c) ≡ o → c .reply ≡ replyOf o
 unfolding outcomeFrom replyOf
-reply-of-direct-current r c o e = ap replyOf e
+reply-of-direct-current r at c o e = ap replyOf e
 
-pub device-of-direct-current : (r : DeviceRecord) (c : DirectCurrentChanges) (o : EvaluationOutcome) → outcomeFrom r (DirectCurrent c) ≡ o → directCurrentRecord r c ≡ o .device
+pub device-of-direct-current : (r : DeviceRecord) (at : Reading) (c : EvaluationChanges) (o : EvaluationOutcome) → outcomeFrom r at (DirectCurrent c) ≡ o → changedRecord r c (r .charges) ≡ o .device
 unfolding outcomeFrom
-device-of-direct-current r c o e = ap (λ (p : EvaluationOutcome). p .device) e
+device-of-direct-current r at c o e = ap (λ (p : EvaluationOutcome). p .device) e
 
-pub reply-of-refusal : (r : DeviceRecord) (y : EvaluationReply) (o : EvaluationOutcome) → outcomeFrom r (Refusal y) ≡ o → y ≡ replyOf o
+pub reply-of-refusal : (r : DeviceRecord) (at : Reading) (y : EvaluationReply) (o : EvaluationOutcome) → outcomeFrom r at (Refusal y) ≡ o → y ≡ replyOf o
 unfolding outcomeFrom replyOf
-reply-of-refusal r y o e = ap replyOf e
+reply-of-refusal r at y o e = ap replyOf e
 
-pub device-of-refusal : (r : DeviceRecord) (y : EvaluationReply) (o : EvaluationOutcome) → outcomeFrom r (Refusal y) ≡ o → r ≡ o .device
+pub device-of-refusal : (r : DeviceRecord) (at : Reading) (y : EvaluationReply) (o : EvaluationOutcome) → outcomeFrom r at (Refusal y) ≡ o → r ≡ o .device
 unfolding outcomeFrom
-device-of-refusal r y o e = ap (λ (p : EvaluationOutcome). p .device) e
+device-of-refusal r at y o e = ap (λ (p : EvaluationOutcome). p .device) e
 
 -- ---- the commit
 

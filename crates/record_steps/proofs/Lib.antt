@@ -1,3 +1,2 @@
 pub mod Changes
 pub mod StandsFor
-pub mod WithCharges

@@ -1,18 +1,19 @@
 -- Evaluation and commit of a device that is a record: a record with an unknown tag is refused under 100, any other as its device is.
 -- What a call does not change stays in the record as it was handed in, unused fields too.
 use Prim.Native.Nat.{ℕ}
-use mathlib.Core.Bool.{Bool, true, cond, _&&_}
+use mathlib.Core.Bool.{Bool, true, false, cond, _&&_}
 use mathlib.Core.List.{List}
 use lib.Dec.{eqb, leb}
 use lib.Ieee.{Float}
 use Rattle.exact.specs.Float64.{+0}
 use Rattle.bias.specs.declared.Answer.{Answer}
-use Rattle.mosfet1.specs.Steps.{evaluatedChargesOf}
+use Rattle.mosfet1.specs.Steps.{evaluatedChargesOf, evaluatedOf}
 use Rattle.mosfet1.specs.declared.steps.Conditions.{Conditions}
 use Rattle.mosfet1.specs.declared.steps.Evaluated.{Evaluated}
-use Rattle.rows.specs.Rows.{voltagesOf}
+use Rattle.rows.specs.Rows.{voltagesOf, evalRows}
 use Rattle.model.specs.Calls.{evalOf, commitOf}
-use Rattle.device.specs.Refusals.{Outcome, done, refused}
+use Rattle.device.specs.Refusals.{unless, Outcome, done, refused}
+use Rattle.device.specs.declared.Charges.{Charges}
 use Rattle.device.specs.declared.Mosfet1.{Mosfet1}
 use Rattle.record.specs.Records.{historiesRecord, methodRecord, stageTag}
 use Rattle.record.specs.declared.DeviceOutcome.{DeviceOutcome}
@@ -21,10 +22,10 @@ use Rattle.from_record.specs.Devices.{deviceFrom, methodFrom}
 use Rattle.from_record.specs.Tags.{goodTags}
 use Rattle.record_steps.specs.declared.ConditionsRecord.{ConditionsRecord}
 use Rattle.record_steps.specs.declared.EvaluationReply.{EvaluationReply}
+use Rattle.record_steps.specs.declared.Reading.{Reading}
 use Rattle.record_steps.specs.declared.EvaluationChanges.{EvaluationChanges}
-use Rattle.record_steps.specs.declared.DirectCurrentChanges.{DirectCurrentChanges}
 use Rattle.record_steps.specs.declared.ChangesOrRefusal.{ChangesOrRefusal}
-use Rattle.record_steps.specs.declared.ChangesOrRefusal.the-variants.{Changes, DirectCurrent, Refusal}
+use Rattle.record_steps.specs.declared.ChangesOrRefusal.the-variants.{Transient, DirectCurrent, Refusal}
 use Rattle.record_steps.specs.declared.CommitChanges.{CommitChanges}
 use Rattle.record_steps.specs.declared.CommitAnswer.{CommitAnswer}
 use Rattle.record_steps.specs.declared.CommitAnswer.the-variants as CommitAnswer
@@ -87,92 +88,58 @@ evalCall r x k =
 unfoldable pub replyOf : EvaluationOutcome → EvaluationReply
 replyOf o = record { refusal = o .refusal; answer = o .answer }
 
--- the record with an evaluation's changes
-unfoldable pub changedRecord : DeviceRecord → EvaluationChanges → DeviceRecord
-changedRecord r c =
-    record {
-      card = r .card;
-      geometry = r .geometry;
-      scaled = r .scaled;
-      terminals = r .terminals;
-      point = c .point;
-      charges = c .charges;
-      histories = r .histories;
-      method = c .method;
-      stage = c .stage;
-    }
+-- What an evaluation reads: 100 for an unknown tag, otherwise the row that refuses it; where none does, 0 and the inner nodes' voltages
+unfoldable pub refusedReading : ℕ → Reading
+refusedReading n = record { row = n; voltages = record { vd = +0; vg = +0; vs = +0; vb = +0 } }
 
--- the record with the changes of an evaluation without the transient flag: the charges stay, and the device is evaluated
-unfoldable pub directCurrentRecord : DeviceRecord → DirectCurrentChanges → DeviceRecord
-directCurrentRecord r c =
-    record {
-      card = r .card;
-      geometry = r .geometry;
-      scaled = r .scaled;
-      terminals = r .terminals;
-      point = c .point;
-      charges = r .charges;
-      histories = r .histories;
-      method = c .method;
-      stage = 5;
-    }
+unfoldable pub readOf : Mosfet1 → List Float → Conditions → Reading
+readOf d x k = unless (evalRows (d .stage) (d .terminals) x (k .temperature) (k .gmin) (k .method)) refusedReading (record { row = 0; voltages = voltagesOf x (d .terminals) })
 
--- the outcome of a call, from the record handed in and what the call gives to be stored
-unfoldable pub outcomeFrom : DeviceRecord → ChangesOrRefusal → EvaluationOutcome
-outcomeFrom r (Changes c) = record { refusal = c .reply .refusal; answer = c .reply .answer; device = changedRecord r c }
-outcomeFrom r (DirectCurrent c) = record { refusal = c .reply .refusal; answer = c .reply .answer; device = directCurrentRecord r c }
-outcomeFrom r (Refusal y) = record { refusal = y .refusal; answer = y .answer; device = r }
+unfoldable pub readingOf : DeviceRecord → List Float → ConditionsRecord → Reading
+readingOf r x k = cond (goodTags r) (cond (goodConditions k) (readOf (deviceFrom r) x (conditionsFrom k)) (refusedReading 100)) (refusedReading 100)
 
--- what an evaluation gives to be stored: the reply with the parts that it changes, or, where it is refused, the reply alone
+-- what an evaluation gives to be stored, the charges aside: the reply with the parts that it changes
 unfoldable pub evaluatedChanges : Evaluated → EvaluationChanges
 evaluatedChanges e =
     record {
       reply = record { refusal = 0; answer = e .answer };
       point = e .device .point;
-      charges = e .device .charges;
-      method = methodRecord (e .device .disc);
-      stage = stageTag (e .device .stage);
-    }
-
-unfoldable pub directCurrentGiven : Evaluated → DirectCurrentChanges
-directCurrentGiven e =
-    record {
-      reply = record { refusal = 0; answer = e .answer };
-      point = e .device .point;
       method = methodRecord (e .device .disc);
     }
 
-unfoldable pub evaluationGiven : Bool → Outcome Evaluated → ChangesOrRefusal
-evaluationGiven transient (done e) = cond transient (Changes (evaluatedChanges e)) (DirectCurrent (directCurrentGiven e))
-evaluationGiven transient (refused n) = Refusal (refusedReply n)
+-- from what was read: an evaluation without the transient flag, whose charges come on top with it, or, where it is refused, the reply alone
+unfoldable pub evaluateOf : DeviceRecord → Reading → ConditionsRecord → ChangesOrRefusal
+evaluateOf r at k =
+    cond (eqb (at .row) 0)
+    (cond (eqb (k .transient) 1)
+    (Transient (evaluatedChanges (evaluatedOf (deviceFrom r) (at .voltages) false (conditionsFrom k))))
+    (DirectCurrent (evaluatedChanges (evaluatedOf (deviceFrom r) (at .voltages) false (conditionsFrom k)))))
+    (Refusal (refusedReply (at .row)))
 
--- an evaluation without the transient flag with the charges of one with it: d is the device before, x the lent list
-unfoldable pub chargedOf : Mosfet1 → List Float → Evaluated → Evaluated
-chargedOf d x e =
+-- the charges of an evaluation with the transient flag
+unfoldable pub chargesFrom : DeviceRecord → Reading → EvaluationChanges → Charges
+chargesFrom r at c = evaluatedChargesOf (deviceFrom r) (at .voltages) true (c .reply .answer)
+
+-- the record with an evaluation's changes; the device is evaluated
+unfoldable pub changedRecord : DeviceRecord → EvaluationChanges → Charges → DeviceRecord
+changedRecord r c q =
     record {
-      device = record {
-        card = e .device .card;
-        geometry = e .device .geometry;
-        scaled = e .device .scaled;
-        terminals = e .device .terminals;
-        point = e .device .point;
-        charges = evaluatedChargesOf d (voltagesOf x (d .terminals)) true (e .answer);
-        histories = e .device .histories;
-        disc = e .device .disc;
-        stage = e .device .stage;
-      };
-      answer = e .answer;
+      card = r .card;
+      geometry = r .geometry;
+      scaled = r .scaled;
+      terminals = r .terminals;
+      point = c .point;
+      charges = q;
+      histories = r .histories;
+      method = c .method;
+      stage = 5;
     }
 
-unfoldable pub withCharges : Bool → Mosfet1 → List Float → Outcome Evaluated → Outcome Evaluated
-withCharges transient d x (done e) = done (cond transient (chargedOf d x e) e)
-withCharges transient d x (refused n) = refused n
-
-unfoldable pub evaluateOf : DeviceRecord → List Float → ConditionsRecord → ChangesOrRefusal
-evaluateOf r x k =
-    cond (goodTags r)
-    (cond (goodConditions k) (evaluationGiven (eqb (k .transient) 1) (evalOf (deviceFrom r) x (eqb (k .transient) 1) (conditionsFrom k))) (Refusal (refusedReply 100)))
-    (Refusal (refusedReply 100))
+-- the outcome of a call, from the record handed in, what was read and what the call gives to be stored
+unfoldable pub outcomeFrom : DeviceRecord → Reading → ChangesOrRefusal → EvaluationOutcome
+outcomeFrom r at (Transient c) = record { refusal = c .reply .refusal; answer = c .reply .answer; device = changedRecord r c (chargesFrom r at c) }
+outcomeFrom r at (DirectCurrent c) = record { refusal = c .reply .refusal; answer = c .reply .answer; device = changedRecord r c (r .charges) }
+outcomeFrom r at (Refusal y) = record { refusal = y .refusal; answer = y .answer; device = r }
 
 -- the record after a commit that leaves the device d
 unfoldable pub committedRecord : DeviceRecord → Mosfet1 → DeviceRecord

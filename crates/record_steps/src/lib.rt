@@ -1,10 +1,10 @@
 // Evaluation and commit of a device that is a record.
 use bias::Answer;
+use bias::Voltages;
 use device::Charges;
 use device::Mosfet1;
 use device::OperatingPoint;
 use model::calls::Commit;
-use model::calls::Evaluation;
 use mosfet1::steps::Conditions;
 use mosfet1::steps::Evaluated;
 use record::DeviceRecord;
@@ -12,9 +12,8 @@ use record::HistoriesRecord;
 use record::MethodRecord;
 use temperature::Kelvin;
 ghost use mathlib.Core.Path.{_≡_};
-ghost use Rattle.model.specs.Calls.{outcomeOfEvaluation, outcomeOfCommit};
-ghost use Rattle.record_steps.specs.Steps.{goodConditions, conditionsFrom, refusedReply, evaluatedChanges, directCurrentGiven, evaluationGiven, chargedOf, withCharges, evaluateOf, commitGiven, commitRecordOf};
-ghost use Rattle.record_steps.specs.declared.ChangesOrRefusal.the-variants.{Changes, DirectCurrent};
+ghost use Rattle.model.specs.Calls.{outcomeOfCommit};
+ghost use Rattle.record_steps.specs.Steps.{goodConditions, conditionsFrom, refusedReply, refusedReading, readOf, readingOf, evaluatedChanges, evaluateOf, chargesFrom, commitGiven, commitRecordOf};
 
 // What an evaluation is handed besides the voltages. The limiter and the transient flag are 0 or 1.
 #[repr(C)]
@@ -33,17 +32,16 @@ pub struct EvaluationReply {
     pub answer: Answer,
 }
 
-// The reply of an accepted evaluation, and the parts of the record that it changes.
-pub struct EvaluationChanges {
-    pub reply: EvaluationReply,
-    pub point: OperatingPoint,
-    pub charges: Charges,
-    pub method: MethodRecord,
-    pub stage: u64,
+// What an evaluation reads before it works anything out: the row that refuses it, 0 where none does, and then the voltages of the inner
+// nodes.
+pub struct Reading {
+    pub row: u64,
+    pub voltages: Voltages,
 }
 
-// The same without the transient flag: the charges stay as they are, and the stage is known.
-pub struct DirectCurrentChanges {
+// The reply of an accepted evaluation, and the parts of the record that it changes with the transient flag and without. The stage of
+// an evaluated device is known, and the charges are worked out apart.
+pub struct EvaluationChanges {
     pub reply: EvaluationReply,
     pub point: OperatingPoint,
     pub method: MethodRecord,
@@ -51,8 +49,8 @@ pub struct DirectCurrentChanges {
 
 // A refused evaluation changes no part of the record: there is its reply alone. So nobody has to store what did not change.
 pub enum ChangesOrRefusal {
-    Changes(EvaluationChanges),
-    DirectCurrent(DirectCurrentChanges),
+    Transient(EvaluationChanges),
+    DirectCurrent(EvaluationChanges),
     Refusal(EvaluationReply),
 }
 
@@ -111,88 +109,97 @@ fn refused_reply(n: u64) -> EvaluationReply
     }
 }
 
-// What changes is the same for every record that stands for the device: none is handed in here.
-fn accepted_evaluation(e: Evaluated) -> ChangesOrRefusal
-    ensures { λ c. ⌜ c ≡ Changes (evaluatedChanges e) ⌝ }
+fn refused_reading(n: u64) -> Reading
+    ensures { λ o. ⌜ o ≡ refusedReading n ⌝ }
 {
-    let answer = e.answer;
-    let d = e.device;
-    let point = d.point;
-    let charges = d.charges;
-    let disc = d.disc;
-    let stage = d.stage;
-    let reply = EvaluationReply { refusal: 0, answer };
-    let changes = EvaluationChanges {
-        reply,
-        point,
-        charges,
-        method: record::method_record(disc),
-        stage: record::stage_tag(stage),
-    };
-    ChangesOrRefusal::Changes(changes)
-}
-
-// An evaluation without the transient flag, and the charges of one with it. So the evaluation itself carries no charges along, and
-// they are worked out where they are stored.
-fn accepted_transient(e: Evaluated, d: Mosfet1, x: &[f64]) -> ChangesOrRefusal
-    ensures { λ c. ⌜ c ≡ Changes (evaluatedChanges (chargedOf d (now (x .entry)) e)) ⌝ }
-{
-    let answer = e.answer;
-    let v = rows::voltages(x, d.terminals);
-    let charges = mosfet1::steps::evaluated_charges(d, v, true, answer);
-    let mut device = e.device;
-    device.charges = charges;
-    let charged = Evaluated { device, answer };
-    accepted_evaluation(charged)
-}
-
-fn accepted_direct_current(e: Evaluated) -> ChangesOrRefusal
-    ensures { λ c. ⌜ c ≡ DirectCurrent (directCurrentGiven e) ⌝ }
-{
-    let answer = e.answer;
-    let d = e.device;
-    let point = d.point;
-    let disc = d.disc;
-    let reply = EvaluationReply { refusal: 0, answer };
-    let changes = DirectCurrentChanges {
-        reply,
-        point,
-        method: record::method_record(disc),
-    };
-    ChangesOrRefusal::DirectCurrent(changes)
-}
-
-// a is the evaluation without the transient flag.
-fn evaluation_changes(a: Evaluation, transient: bool, d: Mosfet1, x: &[f64]) -> ChangesOrRefusal
-    ensures { λ c. ⌜ c ≡ evaluationGiven transient (withCharges transient d (now (x .entry)) (outcomeOfEvaluation a)) ⌝ }
-{
-    match a {
-        Evaluation::Done(e) => {
-            if transient {
-                accepted_transient(e, d, x)
-            } else {
-                accepted_direct_current(e)
-            }
-        }
-        Evaluation::Refused(n) => ChangesOrRefusal::Refusal(refused_reply(record::wide(n))),
+    Reading {
+        row: n,
+        voltages: Voltages {
+            vd: 0.0,
+            vg: 0.0,
+            vs: 0.0,
+            vb: 0.0,
+        },
     }
 }
 
-// `eval` of the device that the record stands for: the answer, and what of the record changes.
-pub fn evaluate(r: DeviceRecord, x: &[f64], k: ConditionsRecord) -> ChangesOrRefusal
-    ensures { λ c. ⌜ c ≡ evaluateOf r (now (x .entry)) k ⌝ }
+fn read(d: Mosfet1, x: &[f64], k: Conditions) -> Reading
+    ensures { λ o. ⌜ o ≡ readOf d (now (x .entry)) k ⌝ }
+{
+    let stage = d.stage;
+    let method = k.method;
+    let n = x.len();
+    let first = step_rows::first_row(stage, d.terminals, n, k.temperature, k.gmin);
+    if first != 0 {
+        return refused_reading(record::wide(first));
+    }
+    let v = rows::voltages(x, d.terminals);
+    let last = step_rows::last_row(v, method);
+    if last != 0 {
+        return refused_reading(record::wide(last));
+    }
+    Reading {
+        row: 0,
+        voltages: v,
+    }
+}
+
+// An evaluation in three steps, each with a copy of the record of its own: so the compiler reads of the record what a step needs when
+// it needs it, and keeps none of it for later. The first reads the voltages and asks the rows.
+pub fn read_voltages(r: DeviceRecord, x: &[f64], k: ConditionsRecord) -> Reading
+    ensures { λ o. ⌜ o ≡ readingOf r (now (x .entry)) k ⌝ }
 {
     if !from_record::good_tags_at_once(r) {
-        return ChangesOrRefusal::Refusal(refused_reply(100));
+        return refused_reading(100);
     }
     if !good_conditions(k) {
-        return ChangesOrRefusal::Refusal(refused_reply(100));
+        return refused_reading(100);
+    }
+    let d = from_record::device_from(r);
+    read(d, x, conditions_from(k))
+}
+
+// What changes is the same for every record that stands for the device: none is handed in here.
+fn evaluated_changes(e: Evaluated) -> EvaluationChanges
+    ensures { λ c. ⌜ c ≡ evaluatedChanges e ⌝ }
+{
+    let answer = e.answer;
+    let d = e.device;
+    let point = d.point;
+    let disc = d.disc;
+    let reply = EvaluationReply { refusal: 0, answer };
+    EvaluationChanges {
+        reply,
+        point,
+        method: record::method_record(disc),
+    }
+}
+
+// The second step: `eval` of the device that the record stands for, without the charges.
+pub fn evaluate(r: DeviceRecord, at: Reading, k: ConditionsRecord) -> ChangesOrRefusal
+    ensures { λ c. ⌜ c ≡ evaluateOf r at k ⌝ }
+{
+    let row = at.row;
+    if row != 0 {
+        return ChangesOrRefusal::Refusal(refused_reply(row));
     }
     let d = from_record::device_from(r);
     let conditions = conditions_from(k);
-    let transient = k.transient == 1;
-    let a = model::calls::eval(d, x, false, conditions);
-    evaluation_changes(a, transient, d, x)
+    let e = mosfet1::steps::evaluate(d, at.voltages, false, conditions);
+    let changes = evaluated_changes(e);
+    if k.transient == 1 {
+        return ChangesOrRefusal::Transient(changes);
+    }
+    ChangesOrRefusal::DirectCurrent(changes)
+}
+
+// The third, where the transient flag is set: the charges and capacitances at what the second answered.
+pub fn charges(r: DeviceRecord, at: Reading, c: EvaluationChanges) -> Charges
+    ensures { λ q. ⌜ q ≡ chargesFrom r at c ⌝ }
+{
+    let d = from_record::device_from(r);
+    let reply = c.reply;
+    mosfet1::steps::evaluated_charges(d, at.voltages, true, reply.answer)
 }
 
 fn commit_changes(a: Commit) -> CommitAnswer

@@ -1,0 +1,43 @@
+-- `record_steps::read` meets its contract.
+-- Assumes nothing.
+use borrow.Author.Tests.{eq-eqb, ne-eqb}
+use Rattle.step_rows.proofs.InTwo.{in-two}
+use Rattle.record_steps.proofs.Changes.{read-by-row}
+use borrow.Author.Needs.{needs}
+use Rattle.record_steps.proofs.read.Statement.{statement}
+use Rattle.record_steps.proofs.read.Tie as tie
+
+first-row-requires : tie.Need-first-row-requires
+first-row-requires c κs = search needs
+
+wide-requires : tie.Need-wide-requires
+wide-requires c κs = search needs
+
+refused-reading-requires : tie.Need-refused-reading-requires
+refused-reading-requires c κs = search needs
+
+returns : tie.Need-returns
+returns c =
+    let taken = c .before .before .if1 .taken in
+    rw (c .refused-reading .ensures, c .before .wide .ensures, read-by-row _ _ _, in-two _ _ _ _ _ _, ← c .before .before .before .first-row .ensures, ne-eqb _ 0 taken, ne-eqb _ 0 taken)
+
+voltages-requires : tie.Need-voltages-requires
+voltages-requires c κs = search needs
+
+last-row-requires : tie.Need-last-row-requires
+last-row-requires c κs = search needs
+
+wide-requires-2 : tie.Need-wide-requires-2
+wide-requires-2 c κs = search needs
+
+refused-reading-requires-2 : tie.Need-refused-reading-requires-2
+refused-reading-requires-2 c κs = search needs
+
+returns-2 : tie.Need-returns-2
+returns-2 c = rw (c .refused-reading2 .ensures, c .before .wide2 .ensures, read-by-row _ _ _, in-two _ _ _ _ _ _, ← c .before .before .before .before .before .before .first-row .ensures, eq-eqb _ 0 (c .before .before .before .before .before .if1 .left), ← c .before .before .before .before .voltages .ensures, ← c .before .before .before .last-row .ensures, ne-eqb _ 0 (c .before .before .if2 .taken))
+
+returns-3 : tie.Need-returns-3
+returns-3 c = rw (read-by-row _ _ _, in-two _ _ _ _ _ _, ← c .before .before .before .before .first-row .ensures, eq-eqb _ 0 (c .before .before .before .if1 .left), ← c .before .before .voltages .ensures, ← c .before .last-row .ensures, eq-eqb _ 0 (c .if2 .left))
+
+pub read-spec : {M : Type 1} → statement M
+read-spec = tie.close (tie.spec first-row-requires wide-requires refused-reading-requires returns voltages-requires last-row-requires wide-requires-2 refused-reading-requires-2 returns-2 returns-3)

@@ -1,0 +1,52 @@
+-- `record_steps::read_voltages` meets its contract.
+-- Assumes nothing.
+use borrow.Author.Tests.{not-true, not-false}
+use Rattle.record_steps.specs.Steps.{readingOf}
+use borrow.Author.Needs.{needs}
+use Rattle.record_steps.proofs.read_voltages.Statement.{statement}
+use Rattle.record_steps.proofs.read_voltages.Tie as tie
+
+good-tags-at-once-requires : tie.Need-good-tags-at-once-requires
+good-tags-at-once-requires c κs = search needs
+
+refused-reading-requires : tie.Need-refused-reading-requires
+refused-reading-requires c κs = search needs
+
+returns : tie.Need-returns
+unfolding readingOf
+returns c = rw (c .refused-reading .ensures, ← c .before .before .good-tags-at-once .ensures, not-true (c .before .before .good-tags-at-once .result) (c .before .if1 .taken))
+
+good-conditions-requires : tie.Need-good-conditions-requires
+good-conditions-requires c κs = search needs
+
+refused-reading-requires-2 : tie.Need-refused-reading-requires-2
+refused-reading-requires-2 c κs = search needs
+
+returns-2 : tie.Need-returns-2
+unfolding readingOf
+returns-2 c = rw (c .refused-reading2 .ensures, ← c .before .before .before .before .good-tags-at-once .ensures, not-false (c .before .before .before .before .good-tags-at-once .result) (c .before .before .before .if1 .left), ← c .before .before .good-conditions .ensures, not-true (c .before .before .good-conditions .result) (c .before .if2 .taken))
+
+device-from-requires : tie.Need-device-from-requires
+device-from-requires c κs = search needs
+
+conditions-from-requires : tie.Need-conditions-from-requires
+conditions-from-requires c κs = search needs
+
+read-requires : tie.Need-read-requires
+read-requires c κs = search needs
+
+returns-3 : tie.Need-returns-3
+unfolding readingOf
+returns-3 c =
+    rw (
+      c .read .ensures,
+      c .before .conditions-from .ensures,
+      c .before .before .device-from .ensures,
+      ← c .before .before .before .before .before .before .good-tags-at-once .ensures,
+      not-false (c .before .before .before .before .before .before .good-tags-at-once .result) (c .before .before .before .before .before .if1 .left),
+      ← c .before .before .before .before .good-conditions .ensures,
+      not-false (c .before .before .before .before .good-conditions .result) (c .before .before .before .if2 .left),
+    )
+
+pub read-voltages-spec : {M : Type 1} → statement M
+read-voltages-spec = tie.close (tie.spec good-tags-at-once-requires refused-reading-requires returns good-conditions-requires refused-reading-requires-2 returns-2 device-from-requires conditions-from-requires read-requires returns-3)
