@@ -12,7 +12,10 @@ use record::HistoriesRecord;
 use record::MethodRecord;
 use temperature::Kelvin;
 ghost use mathlib.Core.Path.{_≡_};
+ghost use mathlib.Core.Bool.{false};
+ghost use Rattle.mosfet1.specs.Steps.{evaluatedOf};
 ghost use Rattle.model.specs.Calls.{outcomeOfCommit};
+ghost use Rattle.from_record.specs.Devices.{deviceFrom};
 ghost use Rattle.record_steps.specs.Steps.{goodConditions, conditionsFrom, refusedReply, refusedReading, readOf, readingOf, evaluatedChanges, evaluateOf, chargesFrom, commitGiven, commitRecordOf};
 
 // What an evaluation is handed besides the voltages. The limiter and the transient flag are 0 or 1.
@@ -175,6 +178,14 @@ fn evaluated_changes(e: Evaluated) -> EvaluationChanges
     }
 }
 
+fn changes_at(r: DeviceRecord, v: Voltages, k: ConditionsRecord) -> EvaluationChanges
+    ensures { λ c. ⌜ c ≡ evaluatedChanges (evaluatedOf (deviceFrom r) v false (conditionsFrom k)) ⌝ }
+{
+    let d = from_record::device_from(r);
+    let conditions = conditions_from(k);
+    evaluated_changes(mosfet1::steps::evaluate(d, v, false, conditions))
+}
+
 // The second step: `eval` of the device that the record stands for, without the charges.
 pub fn evaluate(r: DeviceRecord, at: Reading, k: ConditionsRecord) -> ChangesOrRefusal
     ensures { λ c. ⌜ c ≡ evaluateOf r at k ⌝ }
@@ -183,10 +194,7 @@ pub fn evaluate(r: DeviceRecord, at: Reading, k: ConditionsRecord) -> ChangesOrR
     if row != 0 {
         return ChangesOrRefusal::Refusal(refused_reply(row));
     }
-    let d = from_record::device_from(r);
-    let conditions = conditions_from(k);
-    let e = mosfet1::steps::evaluate(d, at.voltages, false, conditions);
-    let changes = evaluated_changes(e);
+    let changes = changes_at(r, at.voltages, k);
     if k.transient == 1 {
         return ChangesOrRefusal::Transient(changes);
     }

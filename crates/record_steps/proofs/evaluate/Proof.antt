@@ -13,25 +13,16 @@ returns : tie.Need-returns
 unfolding evaluateOf
 returns c = rw (c .refused-reply .ensures, ne-eqb _ 0 (c .before .if1 .taken))
 
-device-from-requires : tie.Need-device-from-requires
-device-from-requires c κs = search needs
-
-conditions-from-requires : tie.Need-conditions-from-requires
-conditions-from-requires c κs = search needs
-
-evaluate-requires : tie.Need-evaluate-requires
-evaluate-requires c κs = search needs
-
-evaluated-changes-requires : tie.Need-evaluated-changes-requires
-evaluated-changes-requires c κs = search needs
+changes-at-requires : tie.Need-changes-at-requires
+changes-at-requires c κs = search needs
 
 returns-2 : tie.Need-returns-2
 unfolding evaluateOf
-returns-2 c = rw (c .before .before .evaluated-changes .ensures, c .before .before .before .evaluate .ensures, c .before .before .before .before .conditions-from .ensures, c .before .before .before .before .before .device-from .ensures, eq-eqb _ 0 (c .before .before .before .before .before .before .if1 .left), eq-eqb _ 1 (c .if2 .taken))
+returns-2 c = rw (c .before .before .changes-at .ensures, eq-eqb _ 0 (c .before .before .before .if1 .left), eq-eqb _ 1 (c .if2 .taken))
 
 returns-3 : tie.Need-returns-3
 unfolding evaluateOf
-returns-3 c = rw (c .before .before .evaluated-changes .ensures, c .before .before .before .evaluate .ensures, c .before .before .before .before .conditions-from .ensures, c .before .before .before .before .before .device-from .ensures, eq-eqb _ 0 (c .before .before .before .before .before .before .if1 .left), ne-eqb _ 1 (c .if2 .left))
+returns-3 c = rw (c .before .before .changes-at .ensures, eq-eqb _ 0 (c .before .before .before .if1 .left), ne-eqb _ 1 (c .if2 .left))
 
 pub evaluate-spec : {M : Type 1} → statement M
-evaluate-spec = tie.close (tie.spec refused-reply-requires returns device-from-requires conditions-from-requires evaluate-requires evaluated-changes-requires returns-2 returns-3)
+evaluate-spec = tie.close (tie.spec refused-reply-requires returns changes-at-requires returns-2 returns-3)
