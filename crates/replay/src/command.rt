@@ -4,7 +4,7 @@ use crate::script::word::skip_spaces;
 use crate::script::word::word;
 use crate::script::word::word_count;
 
-// Calls that change the device.
+// Calls with words that change the device.
 pub enum Change {
     Scale,
     Bind,
@@ -12,25 +12,36 @@ pub enum Change {
     Commit,
 }
 
-// Calls that do not; an unknown command is among them.
+// Calls that read the device and leave it.
 pub enum Question {
     Noise,
     Reactances,
     State,
+    Load,
+    LoadResolved,
+}
+
+// Lines that do not touch the device; an unknown command is among them.
+pub enum Apart {
+    Silent,
     Function,
     Unknown,
 }
 
-// A card or a geometry is raw or plain.
-pub enum Command {
-    Silent,
+// What the keys of a line are handed to: a card, which is of a PMOS device or not, or a geometry.
+pub enum Reader {
     Card(bool),
-    Geometry(bool),
-    Changing(Change),
+    Geometry,
+    Unnamed,
+}
+
+// A call with keys is raw or plain.
+pub enum Command {
+    Aside(Apart),
     Asking(Question),
-    Load,
+    Changing(Change),
+    Keys(Reader, bool),
     Resolve,
-    LoadResolved,
     Reset,
 }
 
@@ -45,66 +56,84 @@ fn is_silent(line: &[u8]) -> bool {
     line[0] == b'#'
 }
 
-fn question_of(name: &[u8], words: usize) -> Question {
-    if same(name, b"call") {
-        return Question::Function;
+// Which word of `names` w is, counted from 0; the count of the names where it is none of them. One search and a match on its answer
+// are a fraction of the steps of a test for each name.
+pub fn place_of(names: &[u8], w: &[u8]) -> usize {
+    let n = word_count(names);
+    let mut k = 0;
+    while k < n {
+        if same(word(names, k), w) {
+            return k;
+        }
+        k += 1;
     }
-    if same(name, b"noise") && words == 3 {
-        return Question::Noise;
-    }
-    if same(name, b"reactances") && words == 1 {
-        return Question::Reactances;
-    }
-    if same(name, b"state") && words == 1 {
-        return Question::State;
-    }
-    Question::Unknown
+    n
 }
 
-fn counted(name: &[u8], words: usize) -> Command {
-    if same(name, b"scale") && words == 2 {
-        return Command::Changing(Change::Scale);
+// The card of a polarity, `n` or `p`.
+fn card_of(w: &[u8]) -> Reader {
+    match place_of(b"n p", w) {
+        0 => Reader::Card(false),
+        1 => Reader::Card(true),
+        _ => Reader::Unnamed,
     }
-    if same(name, b"bind") && words == 6 {
-        return Command::Changing(Change::Bind);
-    }
-    if same(name, b"eval") && words == 7 {
-        return Command::Changing(Change::Eval);
-    }
-    if same(name, b"commit") && words == 2 {
-        return Command::Changing(Change::Commit);
-    }
-    if same(name, b"load") && words == 6 {
-        return Command::Load;
-    }
-    if same(name, b"resolve") && words == 3 {
-        return Command::Resolve;
-    }
-    if same(name, b"loadresolved") && words == 4 {
-        return Command::LoadResolved;
-    }
-    if same(name, b"reset") && words == 1 {
-        return Command::Reset;
-    }
-    Command::Asking(question_of(name, words))
 }
 
+// The number of a command; 16 is none.
+fn number_of(w: &[u8]) -> usize {
+    place_of(
+        b"card cardraw geometry geometryraw call scale bind eval commit load resolve loadresolved reset noise reactances state",
+        w,
+    )
+}
+
+// How many words a line of a command has; those of the first five are not counted here.
+fn words_of(number: usize, words: usize) -> usize {
+    match number {
+        5 | 8 => 2,
+        6 | 9 => 6,
+        7 => 7,
+        10 | 13 => 3,
+        11 => 4,
+        12 | 14 | 15 => 1,
+        _ => words,
+    }
+}
+
+fn command_at(number: usize, line: &[u8]) -> Command {
+    match number {
+        0 => Command::Keys(card_of(word(line, 1)), false),
+        1 => Command::Keys(card_of(word(line, 1)), true),
+        2 => Command::Keys(Reader::Geometry, false),
+        3 => Command::Keys(Reader::Geometry, true),
+        4 => Command::Aside(Apart::Function),
+        5 => Command::Changing(Change::Scale),
+        6 => Command::Changing(Change::Bind),
+        7 => Command::Changing(Change::Eval),
+        8 => Command::Changing(Change::Commit),
+        9 => Command::Asking(Question::Load),
+        10 => Command::Resolve,
+        11 => Command::Asking(Question::LoadResolved),
+        12 => Command::Reset,
+        13 => Command::Asking(Question::Noise),
+        14 => Command::Asking(Question::Reactances),
+        15 => Command::Asking(Question::State),
+        _ => Command::Aside(Apart::Unknown),
+    }
+}
+
+// A line of more than 65,536 bytes is no command, whatever its bytes are.
 pub fn command_of(line: &[u8]) -> Command {
+    let words = word_count(line);
+    let number = number_of(word(line, 0));
+    if line.len() > 65536 {
+        return Command::Aside(Apart::Unknown);
+    }
     if is_silent(line) {
-        return Command::Silent;
+        return Command::Aside(Apart::Silent);
     }
-    let name = word(line, 0);
-    if same(name, b"card") {
-        return Command::Card(false);
+    if words_of(number, words) != words {
+        return Command::Aside(Apart::Unknown);
     }
-    if same(name, b"cardraw") {
-        return Command::Card(true);
-    }
-    if same(name, b"geometry") {
-        return Command::Geometry(false);
-    }
-    if same(name, b"geometryraw") {
-        return Command::Geometry(true);
-    }
-    counted(name, word_count(line))
+    command_at(number, line)
 }

@@ -1,140 +1,70 @@
-// The commands of a script: what a line answers, and the device that it leaves.
+// The commands of a script: what a line answers, and the session that it leaves.
+use crate::command::Apart;
 use crate::command::Change;
 use crate::command::Command;
 use crate::command::Question;
 use crate::command::command_of;
 use crate::device_calls;
+use crate::device_text;
 use crate::function_calls;
 use crate::key_calls;
-use crate::key_calls::Reader;
-use crate::key_calls::card_of;
 use crate::load_calls;
-use crate::replies;
-use crate::replies::Outcome;
 use crate::replies::Reply;
 use crate::replies::Session;
-use crate::replies::Told;
-use crate::script::word::word;
+use crate::replies::ended;
+use crate::replies::first_session;
+use crate::replies::left;
+use crate::replies::put_bad;
+use crate::replies::put_reply;
 use card::CardAnswer;
-use device::Mosfet1;
 
-// The session that a line leaves, and the end of its answer.
-pub struct Answered {
-    pub session: Session,
-    pub end: usize,
+// A line that does not touch the device; one without an answer ends where it begins.
+fn apart(a: Apart, line: &[u8], out: &mut [u8]) -> usize {
+    match a {
+        Apart::Silent => 0,
+        Apart::Function => function_calls::put_call(out, line),
+        Apart::Unknown => put_bad(out),
+    }
+}
+
+fn asked(session: Session, question: Question, line: &[u8], out: &mut [u8]) -> usize {
+    match question {
+        Question::Noise => put_reply(out, device_calls::noise(session.device, line)),
+        Question::Reactances => put_reply(
+            out,
+            device_calls::reactances(small_signal::small_signal_reactances(session.device)),
+        ),
+        Question::State => device_text::put_state(out, session.device, session.present),
+        Question::Load => load_calls::load(session.device, line, out),
+        Question::LoadResolved => load_calls::load_resolved(session, line, out),
+    }
+}
+
+fn change(session: Session, change: Change, line: &[u8], out: &mut [u8]) -> Session {
+    let mut x = [0.0; 4096];
+    let request = device_calls::read_request(change, line, &mut x);
+    let o = device_calls::act(session.device, request, &x);
+    let reply = o.reply;
+    let end = put_reply(out, reply);
+    left(session, o.device, end)
 }
 
 // The first session again. A card with no keys is never refused.
-pub fn forget(session: Session) -> Session {
+fn forget(session: Session) -> Session {
     match card::from_model_params(false, &[], &[], &[], &[], &mut []) {
-        CardAnswer::Done(device, _) => replies::first_session(device),
+        CardAnswer::Done(device, _) => first_session(device),
         CardAnswer::Refused(_) => session,
     }
 }
 
-fn changed(device: Mosfet1, change: Change, line: &[u8]) -> Outcome {
-    match change {
-        Change::Scale => device_calls::scale(device, line),
-        Change::Bind => device_calls::bind(device, line),
-        Change::Eval => device_calls::eval(device, line),
-        Change::Commit => device_calls::commit(device, line),
-    }
-}
-
-fn state(session: Session) -> Reply {
-    if session.present {
-        let device = session.device;
-        return Reply::State(device);
-    }
-    Reply::Nothing
-}
-
-fn asked(session: Session, question: Question, line: &[u8]) -> Reply {
-    let device = session.device;
-    match question {
-        Question::Noise => device_calls::noise(device, line),
-        Question::Reactances => device_calls::reactances(device),
-        Question::State => state(session),
-        Question::Function => function_calls::call(line),
-        Question::Unknown => Reply::Bad,
-    }
-}
-
-fn replied(session: Session, reply: Reply, out: &mut [u8]) -> Answered {
-    let end = replies::put_reply(out, reply, &[]);
-    Answered { session, end }
-}
-
-fn change(session: Session, change: Change, line: &[u8], out: &mut [u8]) -> Answered {
-    let before = session.device;
-    let o = changed(before, change, line);
-    let device = o.device;
-    let reply = o.reply;
-    let mut after = session;
-    after.device = device;
-    replied(after, reply, out)
-}
-
-// A call with keys, and the text of its reply.
-fn keys_call(
-    session: Session,
-    reader: Reader,
-    raw: bool,
-    k: usize,
-    line: &[u8],
-    out: &mut [u8],
-) -> Answered {
-    let mut unknown = [0usize; 4096];
-    let t = key_call(session, reader, raw, k, line, &mut unknown);
-    let reply = t.reply;
-    let end = replies::put_reply(out, reply, &unknown);
-    let session = t.session;
-    Answered { session, end }
-}
-
-fn key_call(
-    session: Session,
-    reader: Reader,
-    raw: bool,
-    k: usize,
-    line: &[u8],
-    unknown: &mut [usize],
-) -> Told {
-    if raw {
-        return key_calls::raw_call(session, reader, line, k, unknown);
-    }
-    key_calls::plain_call(session, reader, line, k, unknown)
-}
-
-fn load(session: Session, line: &[u8], out: &mut [u8]) -> Answered {
-    let device = session.device;
-    let end = load_calls::load(device, line, out);
-    Answered { session, end }
-}
-
-fn resolve(session: Session, line: &[u8], out: &mut [u8]) -> Answered {
-    let t = load_calls::resolve(session, line);
-    let reply = t.reply;
-    let after = t.session;
-    replied(after, reply, out)
-}
-
-fn load_resolved(session: Session, line: &[u8], out: &mut [u8]) -> Answered {
-    let end = load_calls::load_resolved(session, line, out);
-    Answered { session, end }
-}
-
-// What a line answers: the answer's text stands in out from its start on, and is empty for a line without an answer.
-pub fn answer(session: Session, line: &[u8], out: &mut [u8]) -> Answered {
+// What a line answers: the answer's text stands in out from its start on, up to the end that the session keeps.
+pub fn answer(session: Session, line: &[u8], out: &mut [u8]) -> Session {
     match command_of(line) {
-        Command::Silent => Answered { session, end: 0 },
-        Command::Card(raw) => keys_call(session, card_of(word(line, 1)), raw, 2, line, out),
-        Command::Geometry(raw) => keys_call(session, Reader::Geometry, raw, 1, line, out),
+        Command::Aside(a) => ended(session, apart(a, line, out)),
+        Command::Asking(q) => ended(session, asked(session, q, line, out)),
         Command::Changing(c) => change(session, c, line, out),
-        Command::Asking(q) => replied(session, asked(session, q, line), out),
-        Command::Load => load(session, line, out),
-        Command::Resolve => resolve(session, line, out),
-        Command::LoadResolved => load_resolved(session, line, out),
-        Command::Reset => replied(forget(session), Reply::Reset, out),
+        Command::Keys(reader, raw) => key_calls::call(session, reader, raw, line, out),
+        Command::Resolve => load_calls::resolve(session, line, out),
+        Command::Reset => ended(forget(session), put_reply(out, Reply::Reset)),
     }
 }

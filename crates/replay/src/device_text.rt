@@ -7,6 +7,7 @@ use crate::script::word::word;
 use device::Card;
 use device::ChargeHistory;
 use device::Charges;
+use device::Discretisation;
 use device::Geometry;
 use device::Given;
 use device::Histories;
@@ -39,18 +40,25 @@ fn put_floats(out: &mut [u8], at: usize, names: &[u8], xs: &[f64]) -> usize {
     n
 }
 
-fn put_optional(out: &mut [u8], at: usize, name: &[u8], given: Given) -> usize {
-    let n = put_name(out, at, name);
+// The card's series resistances by their number.
+fn put_optional(out: &mut [u8], at: usize, k: usize, given: Given) -> usize {
+    let n = put_name(out, at, word(b"rd_card rs_card", k));
     put_given(out, n, given)
 }
 
-fn put_terminal(out: &mut [u8], at: usize, name: &[u8], node: NodeId) -> usize {
-    let n = put_name(out, at, name);
+// The nodes by their number.
+fn put_terminal(out: &mut [u8], at: usize, k: usize, node: NodeId) -> usize {
+    let n = put_name(
+        out,
+        at,
+        word(b"drain_ext source_ext drain gate source bulk", k),
+    );
     put_node(out, n, node)
 }
 
-fn put_past(out: &mut [u8], at: usize, name: &[u8], h: ChargeHistory) -> usize {
-    let n = put_name(out, at, name);
+// The histories by their number.
+fn put_past(out: &mut [u8], at: usize, k: usize, h: ChargeHistory) -> usize {
+    let n = put_name(out, at, word(b"gs_hist gd_hist gb_hist bs_hist bd_hist", k));
     put_history(out, n, h)
 }
 
@@ -62,8 +70,8 @@ fn put_channel(out: &mut [u8], at: usize, c: Card) -> usize {
 fn put_outer(out: &mut [u8], at: usize, t: Terminals) -> usize {
     let drain_ext = t.drain_ext;
     let source_ext = t.source_ext;
-    let n = put_terminal(out, at, b"drain_ext", drain_ext);
-    put_terminal(out, n, b"source_ext", source_ext)
+    let n = put_terminal(out, at, 0, drain_ext);
+    put_terminal(out, n, 1, source_ext)
 }
 
 fn put_series(out: &mut [u8], at: usize, c: Card, g: Geometry) -> usize {
@@ -71,8 +79,8 @@ fn put_series(out: &mut [u8], at: usize, c: Card, g: Geometry) -> usize {
     let rs_card = c.rs_card;
     let xs = [g.rd, g.rs];
     let n = put_floats(out, at, b"rd rs", &xs);
-    let m = put_optional(out, n, b"rd_card", rd_card);
-    put_optional(out, m, b"rs_card", rs_card)
+    let m = put_optional(out, n, 0, rd_card);
+    put_optional(out, m, 1, rs_card)
 }
 
 fn put_currents(
@@ -170,10 +178,10 @@ fn put_inner(out: &mut [u8], at: usize, t: Terminals) -> usize {
     let gate = t.gate;
     let source = t.source;
     let bulk = t.bulk;
-    let a = put_terminal(out, at, b"drain", drain);
-    let b = put_terminal(out, a, b"gate", gate);
-    let c = put_terminal(out, b, b"source", source);
-    put_terminal(out, c, b"bulk", bulk)
+    let a = put_terminal(out, at, 2, drain);
+    let b = put_terminal(out, a, 3, gate);
+    let c = put_terminal(out, b, 4, source);
+    put_terminal(out, c, 5, bulk)
 }
 
 fn put_point(out: &mut [u8], at: usize, p: OperatingPoint) -> usize {
@@ -199,12 +207,9 @@ fn put_gate_charges(out: &mut [u8], at: usize, q: Charges) -> usize {
 }
 
 fn put_gate_histories(out: &mut [u8], at: usize, h: Histories) -> usize {
-    let gs = h.gs_hist;
-    let gd = h.gd_hist;
-    let gb = h.gb_hist;
-    let n = put_past(out, at, b"gs_hist", gs);
-    let m = put_past(out, n, b"gd_hist", gd);
-    put_past(out, m, b"gb_hist", gb)
+    let n = put_past(out, at, 0, h.gs_hist);
+    let m = put_past(out, n, 1, h.gd_hist);
+    put_past(out, m, 2, h.gb_hist)
 }
 
 fn put_junction_charges(out: &mut [u8], at: usize, q: Charges) -> usize {
@@ -225,57 +230,55 @@ fn put_junction_charges(out: &mut [u8], at: usize, q: Charges) -> usize {
 }
 
 fn put_junction_histories(out: &mut [u8], at: usize, h: Histories) -> usize {
-    let bs = h.bs_hist;
-    let bd = h.bd_hist;
-    let n = put_past(out, at, b"bs_hist", bs);
-    put_past(out, n, b"bd_hist", bd)
+    let n = put_past(out, at, 3, h.bs_hist);
+    put_past(out, n, 4, h.bd_hist)
+}
+
+fn put_disc(out: &mut [u8], at: usize, disc: Discretisation) -> usize {
+    let n = put_name(out, at, b"disc");
+    put_method(out, n, disc)
 }
 
 // The fields up to the bulk junctions' factors.
 fn put_first(out: &mut [u8], at: usize, d: Mosfet1) -> usize {
-    let c = d.card;
-    let g = d.geometry;
-    let s = d.scaled;
-    let t = d.terminals;
-    let p = d.point;
-    let mut n = put_channel(out, at, c);
-    n = put_outer(out, n, t);
-    n = put_series(out, n, c, g);
-    n = put_currents(out, n, c, g, s, p);
-    put_junctions(out, n, s, p)
+    let mut n = put_channel(out, at, d.card);
+    n = put_outer(out, n, d.terminals);
+    n = put_series(out, n, d.card, d.geometry);
+    n = put_currents(out, n, d.card, d.geometry, d.scaled, d.point);
+    put_junctions(out, n, d.scaled, d.point)
 }
 
 // The fields from there up to the inner nodes.
 fn put_second(out: &mut [u8], at: usize, d: Mosfet1) -> usize {
-    let c = d.card;
-    let g = d.geometry;
-    let s = d.scaled;
-    let t = d.terminals;
-    let mut n = put_scaled(out, at, c, s);
-    n = put_capacitances(out, n, c);
-    n = put_sizes(out, n, g);
-    n = put_products(out, n, g);
-    put_inner(out, n, t)
+    let mut n = put_scaled(out, at, d.card, d.scaled);
+    n = put_capacitances(out, n, d.card);
+    n = put_sizes(out, n, d.geometry);
+    n = put_products(out, n, d.geometry);
+    put_inner(out, n, d.terminals)
 }
 
 // What evaluations and commits leave.
 fn put_third(out: &mut [u8], at: usize, d: Mosfet1) -> usize {
-    let p = d.point;
-    let q = d.charges;
-    let h = d.histories;
-    let mut n = put_point(out, at, p);
-    n = put_gate_charges(out, n, q);
-    n = put_gate_histories(out, n, h);
-    n = put_junction_charges(out, n, q);
-    put_junction_histories(out, n, h)
+    let mut n = put_point(out, at, d.point);
+    n = put_gate_charges(out, n, d.charges);
+    n = put_gate_histories(out, n, d.histories);
+    n = put_junction_charges(out, n, d.charges);
+    put_junction_histories(out, n, d.histories)
 }
 
-pub fn put_state(out: &mut [u8], at: usize, d: Mosfet1) -> usize {
+fn put_present(out: &mut [u8], d: Mosfet1) -> usize {
     let disc = d.disc;
-    let mut n = hex::put_text(out, at, b"state");
+    let mut n = hex::put_text(out, 0, b"state");
     n = put_first(out, n, d);
     n = put_second(out, n, d);
     n = put_third(out, n, d);
-    n = put_name(out, n, b"disc");
-    put_method(out, n, disc)
+    put_disc(out, n, disc)
+}
+
+// The state's text from the start of out on; a device that is not present has none.
+pub fn put_state(out: &mut [u8], d: Mosfet1, present: bool) -> usize {
+    if present {
+        return put_present(out, d);
+    }
+    hex::put_text(out, 0, b"state nothing")
 }

@@ -1,21 +1,24 @@
-// Loads by the words of a line, and the lookup of a load's cells.
+// Loads by the words of a line, and the lookup of a load's cells. A line is read before the device is handed on: what the words are does
+// not hang on it.
+use crate::key_lists::are_lists;
+use crate::key_lists::filled;
+use crate::prefixes::at_most;
 use crate::prefixes::first_columns;
 use crate::prefixes::first_numbers;
 use crate::prefixes::first_places;
-use crate::replies;
-use crate::replies::Reply;
 use crate::replies::Session;
-use crate::replies::Told;
-use crate::replies::tell;
+use crate::replies::ended;
+use crate::replies::put_bad;
+use crate::replies::put_refused;
 use crate::script::number::Number;
 use crate::script::number::read_number;
 use crate::script::word::same;
 use crate::script::word::until;
 use crate::script::word::word;
-use crate::script_lists::Count;
 use device::Mosfet1;
 use loading::LoadAnswer;
 use loading::LoadKind;
+use resolve::Resolution;
 
 // Direct current, transient with its alpha, or a word that is neither.
 enum Kind {
@@ -43,63 +46,111 @@ fn kind_of(w: &[u8]) -> Kind {
     }
 }
 
-// The command's name and both slices whole, or the refusal, from the start of out on.
-fn put_loaded(
+// The words of a pattern: whether they are one, and how many columns and rows they fill.
+struct PatternWords {
+    good: bool,
+    cells: usize,
+    rows: usize,
+}
+
+// A pattern by two words.
+fn read_pattern(
+    first: &[u8],
+    second: &[u8],
+    columns: &mut [u32],
+    offsets: &mut [usize],
+    lengths: &mut [usize],
+) -> PatternWords {
+    let cells = filled(crate::script_lists::columns(first, columns));
+    let rows = filled(crate::script_lists::pairs(second, offsets, lengths));
+    let good = are_lists(cells, rows);
+    PatternWords { good, cells, rows }
+}
+
+// The words of a load: whether they are one, its kind, and how many numbers the right-hand side and the values have.
+struct LoadWords {
+    good: bool,
+    kind: LoadKind,
+    numbers: usize,
+    count: usize,
+}
+
+// The kind and the right-hand side by the words 1 and 2 of a line, the values by the word k.
+fn read_load(line: &[u8], k: usize, rhs: &mut [f64], values: &mut [f64]) -> LoadWords {
+    let kind = kind_of(word(line, 1));
+    let numbers = filled(crate::script_lists::numbers(word(line, 2), rhs));
+    let count = filled(crate::script_lists::numbers(word(line, k), values));
+    load_words(kind, are_lists(numbers, count), numbers, count)
+}
+
+fn load_words(kind: Kind, lists: bool, numbers: usize, count: usize) -> LoadWords {
+    match kind {
+        Kind::Is(kind) => LoadWords {
+            good: lists,
+            kind,
+            numbers,
+            count,
+        },
+        Kind::Not => LoadWords {
+            good: false,
+            kind: LoadKind::DirectCurrent,
+            numbers,
+            count,
+        },
+    }
+}
+
+fn both(a: bool, b: bool) -> bool {
+    a && b
+}
+
+// The command's name and both slices whole, or the refusal, from the start of out on. A load that is not good was made for nothing,
+// into lists that no word wrote or by cells that are not kept: it is bad, whatever it answered. So the functions that hand the device on need no branch.
+fn put_load(
     out: &mut [u8],
     name: &[u8],
+    good: bool,
+    w: LoadWords,
     answer: LoadAnswer,
     rhs: &[f64],
     values: &[f64],
 ) -> usize {
+    if !good {
+        return put_bad(out);
+    }
     match answer {
         LoadAnswer::Done => {
             let n = hex::put_text(out, 0, name);
-            let m = crate::answers::put_list(out, n, rhs);
-            crate::answers::put_list(out, m, values)
+            let m = crate::answers::put_list(out, n, first_numbers(rhs, w.numbers));
+            crate::answers::put_list(out, m, first_numbers(values, w.count))
         }
-        LoadAnswer::Refused(row) => replies::put_reply(out, Reply::Refused(row), &[]),
+        LoadAnswer::Refused(row) => put_refused(out, row),
     }
 }
 
-fn put_bad(out: &mut [u8]) -> usize {
-    hex::put_text(out, 0, b"bad")
-}
-
-// Loads into the first places of both slices; a count beyond its slice is bad.
+// Loads into the first places of both slices.
 fn load_first(
     device: Mosfet1,
-    kind: LoadKind,
+    w: LoadWords,
+    p: PatternWords,
     rhs: &mut [f64],
-    numbers: usize,
     values: &mut [f64],
-    count: usize,
     columns: &[u32],
     offsets: &[usize],
     lengths: &[usize],
-    out: &mut [u8],
-) -> usize {
-    if rhs.len() < numbers {
-        return put_bad(out);
-    }
-    if values.len() < count {
-        return put_bad(out);
-    }
+) -> LoadAnswer {
     let start = 0;
-    let answer = loading::load(
+    let kind = w.kind;
+    let numbers = at_most(w.numbers, rhs.len());
+    let count = at_most(w.count, values.len());
+    loading::load(
         device,
         kind,
         &mut rhs[start..numbers],
         &mut values[start..count],
-        columns,
-        offsets,
-        lengths,
-    );
-    put_loaded(
-        out,
-        b"load",
-        answer,
-        first_numbers(rhs, numbers),
-        first_numbers(values, count),
+        first_columns(columns, p.cells),
+        first_places(offsets, p.rows),
+        first_places(lengths, p.rows),
     )
 }
 
@@ -110,102 +161,98 @@ pub fn load(device: Mosfet1, line: &[u8], out: &mut [u8]) -> usize {
     let mut offsets = [0usize; 4096];
     let mut lengths = [0usize; 4096];
     let mut values = [0.0; 4096];
-    let Kind::Is(kind) = kind_of(word(line, 1)) else {
-        return put_bad(out);
-    };
-    let Count::Is(numbers) = crate::script_lists::numbers(word(line, 2), &mut rhs) else {
-        return put_bad(out);
-    };
-    let Count::Is(cells) = crate::script_lists::columns(word(line, 3), &mut columns) else {
-        return put_bad(out);
-    };
-    let Count::Is(rows) = crate::script_lists::pairs(word(line, 4), &mut offsets, &mut lengths)
-    else {
-        return put_bad(out);
-    };
-    let Count::Is(count) = crate::script_lists::numbers(word(line, 5), &mut values) else {
-        return put_bad(out);
-    };
-    load_first(
+    let w = read_load(line, 5, &mut rhs, &mut values);
+    let p = read_pattern(
+        word(line, 3),
+        word(line, 4),
+        &mut columns,
+        &mut offsets,
+        &mut lengths,
+    );
+    let answer = load_first(
         device,
-        kind,
+        w,
+        p,
         &mut rhs,
-        numbers,
         &mut values,
-        count,
-        first_columns(&columns, cells),
-        first_places(&offsets, rows),
-        first_places(&lengths, rows),
-        out,
-    )
+        &columns,
+        &offsets,
+        &lengths,
+    );
+    put_load(out, b"load", both(w.good, p.good), w, answer, &rhs, &values)
 }
 
 // The cells that were looked up are kept. A refusal keeps those from before.
-fn resolve_in(session: Session, columns: &[u32], offsets: &[usize], lengths: &[usize]) -> Told {
-    let device = session.device;
-    let found = resolve::resolve(device, columns, offsets, lengths);
-    if found.row != 0 {
-        return tell(session, Reply::Refused(found.row));
-    }
-    let cells = found.cells;
+fn keep(session: Session, found: Resolution, end: usize) -> Session {
     let mut next = session;
-    next.resolved = true;
-    next.cells = cells;
-    tell(next, Reply::Resolved)
+    next.end = end;
+    if found.row == 0 {
+        let cells = found.cells;
+        next.cells = cells;
+        next.resolved = true;
+    }
+    next
 }
 
-// `resolve COLUMNS ROWS`
-pub fn resolve(session: Session, line: &[u8]) -> Told {
-    let mut columns = [0u32; 4096];
-    let mut offsets = [0usize; 4096];
-    let mut lengths = [0usize; 4096];
-    let Count::Is(cells) = crate::script_lists::columns(word(line, 1), &mut columns) else {
-        return tell(session, Reply::Bad);
-    };
-    let Count::Is(rows) = crate::script_lists::pairs(word(line, 2), &mut offsets, &mut lengths)
-    else {
-        return tell(session, Reply::Bad);
-    };
-    resolve_in(
-        session,
-        first_columns(&columns, cells),
-        first_places(&offsets, rows),
-        first_places(&lengths, rows),
+fn look_up(
+    device: Mosfet1,
+    p: PatternWords,
+    columns: &[u32],
+    offsets: &[usize],
+    lengths: &[usize],
+) -> Resolution {
+    resolve::resolve(
+        device,
+        first_columns(columns, p.cells),
+        first_places(offsets, p.rows),
+        first_places(lengths, p.rows),
     )
 }
 
-// Loads by the kept cells into the first places of both slices; a count beyond its slice is bad.
+fn put_resolved(out: &mut [u8], row: u8) -> usize {
+    if row == 0 {
+        return hex::put_text(out, 0, b"resolve");
+    }
+    put_refused(out, row)
+}
+
+// `resolve COLUMNS ROWS`
+pub fn resolve(session: Session, line: &[u8], out: &mut [u8]) -> Session {
+    let mut columns = [0u32; 4096];
+    let mut offsets = [0usize; 4096];
+    let mut lengths = [0usize; 4096];
+    let p = read_pattern(
+        word(line, 1),
+        word(line, 2),
+        &mut columns,
+        &mut offsets,
+        &mut lengths,
+    );
+    if !p.good {
+        return ended(session, put_bad(out));
+    }
+    let found = look_up(session.device, p, &columns, &offsets, &lengths);
+    keep(session, found, put_resolved(out, found.row))
+}
+
+// Loads by the kept cells into the first places of both slices.
 fn load_kept(
-    session: Session,
-    kind: LoadKind,
+    device: Mosfet1,
+    w: LoadWords,
+    cells: &[usize; 37],
     rhs: &mut [f64],
-    numbers: usize,
     values: &mut [f64],
-    count: usize,
-    out: &mut [u8],
-) -> usize {
-    if rhs.len() < numbers {
-        return put_bad(out);
-    }
-    if values.len() < count {
-        return put_bad(out);
-    }
+) -> LoadAnswer {
     let start = 0;
-    let device = session.device;
-    let cells = session.cells;
-    let answer = load_resolved::load_resolved(
+    let kind = w.kind;
+    let numbers = at_most(w.numbers, rhs.len());
+    let count = at_most(w.count, values.len());
+    load_resolved::load_resolved(
         device,
         kind,
-        &cells,
+        cells,
         &mut rhs[start..numbers],
         &mut values[start..count],
-    );
-    put_loaded(
-        out,
-        b"loadresolved",
-        answer,
-        first_numbers(rhs, numbers),
-        first_numbers(values, count),
     )
 }
 
@@ -213,17 +260,16 @@ fn load_kept(
 pub fn load_resolved(session: Session, line: &[u8], out: &mut [u8]) -> usize {
     let mut rhs = [0.0; 4096];
     let mut values = [0.0; 4096];
-    if !session.resolved {
-        return put_bad(out);
-    }
-    let Kind::Is(kind) = kind_of(word(line, 1)) else {
-        return put_bad(out);
-    };
-    let Count::Is(numbers) = crate::script_lists::numbers(word(line, 2), &mut rhs) else {
-        return put_bad(out);
-    };
-    let Count::Is(count) = crate::script_lists::numbers(word(line, 3), &mut values) else {
-        return put_bad(out);
-    };
-    load_kept(session, kind, &mut rhs, numbers, &mut values, count, out)
+    let cells = session.cells;
+    let w = read_load(line, 3, &mut rhs, &mut values);
+    let answer = load_kept(session.device, w, &cells, &mut rhs, &mut values);
+    put_load(
+        out,
+        b"loadresolved",
+        both(w.good, session.resolved),
+        w,
+        answer,
+        &rhs,
+        &values,
+    )
 }

@@ -13,138 +13,112 @@ mod replies;
 mod script;
 mod script_lists;
 
+use crate::prefixes::first_bytes;
 use crate::replies::Session;
+use crate::script::word::until;
 use card::CardAnswer;
 
-// What is kept between two reads: the session, how many bytes of the line that is being read there are (65,537 stands for more
-// than a line has), and whether the input is over.
-pub struct State {
-    pub session: Session,
+// Where the reading is: at the place `at` of the n bytes that the last read brought. The last line has `len` bytes, and with it the
+// input is over or not. The reading knows nothing of the session: functions that hand the device on are dear to check.
+pub struct Reading {
+    pub at: usize,
+    pub n: usize,
     pub len: usize,
     pub over: bool,
 }
 
-// The first n bytes and a newline to standard output.
-fn write_line(out: &mut [u8], n: usize) {
-    let end = hex::put_text(out, n, b"\n");
-    if end <= out.len() {
-        let start = 0;
-        io::write_all(1, &out[start..end]);
-    }
+// How many bytes a read brings; none where the input is over.
+fn read_more(buf: &mut [u8]) -> usize {
+    let got = libc::read(0, buf);
+    io::count(got, buf)
 }
 
-fn answer_line(session: Session, line: &[u8]) -> Session {
-    let mut out = [0u8; 163840];
-    let a = commands::answer(session, line, &mut out);
-    if a.end > 0 {
-        write_line(&mut out, a.end);
+// The bytes of a part of what was read, behind the first len bytes of the line. What has no room is left out.
+fn add(line: &mut [u8], len: usize, buf: &[u8], at: usize, end: usize) -> usize {
+    if buf.len() < end {
+        return len;
     }
-    a.session
+    if end < at {
+        return len;
+    }
+    hex::put_text(line, len, &buf[at..end])
 }
 
-// The line is whole. One of more than 65,536 bytes is bad.
-fn finish(session: Session, line: &[u8], len: usize) -> Session {
-    if len > 65536 {
-        io::write_all(1, b"bad\n");
-        return session;
-    }
-    if len > line.len() {
-        return session;
-    }
-    let start = 0;
-    answer_line(session, &line[start..len])
-}
-
-// Bytes of a line that goes on.
-fn add(state: State, line: &mut [u8], part: &[u8]) -> State {
-    let session = state.session;
-    let len = hex::put_text(line, state.len, part);
-    State {
-        session,
-        len,
-        over: false,
-    }
-}
-
-// The last bytes of a line.
-fn end_line(state: State, line: &mut [u8], part: &[u8]) -> State {
-    let before = state.session;
-    let len = hex::put_text(line, state.len, part);
-    let session = finish(before, line, len);
-    State {
-        session,
-        len: 0,
-        over: false,
-    }
-}
-
-// What a read brought: each newline ends a line.
-fn feed(state: State, line: &mut [u8], s: &[u8]) -> State {
-    let mut next = state;
-    let mut at = 0;
-    while at < s.len() {
-        let end = crate::script::word::until(s, at, 10);
-        if end == s.len() {
-            return add(next, line, &s[at..end]);
+// The next line, up to its newline, or up to the end of the input. One that is too long fills the buffer, which has room for a
+// byte more than a line has. A proved loop has to end, and nothing says that the input does: the turns count down from a number that
+// no run uses up.
+fn next_line(last: Reading, buf: &mut [u8; 65536], line: &mut [u8; 65537]) -> Reading {
+    let mut at = last.at;
+    let mut n = last.n;
+    let mut len = 0;
+    let mut more = true;
+    let mut turns = u64::MAX;
+    while turns > 0 && more {
+        let end = until(first_bytes(buf, n), at, 10);
+        len = add(line, len, buf, at, end);
+        if end < n {
+            let after = end + 1;
+            return Reading {
+                at: after,
+                n,
+                len,
+                over: false,
+            };
         }
-        next = end_line(next, line, &s[at..end]);
-        at = end + 1;
+        at = 0;
+        n = read_more(buf);
+        more = n > 0;
+        turns -= 1;
     }
-    next
-}
-
-fn over(session: Session) -> State {
-    State {
-        session,
-        len: 0,
+    Reading {
+        at: 0,
+        n: 0,
+        len,
         over: true,
     }
 }
 
-// A last line without a newline is a line.
-fn last(state: State, line: &[u8]) -> State {
-    let session = state.session;
-    if state.len > 0 {
-        return over(finish(session, line, state.len));
+// The first n bytes and a newline to standard output; nothing where n is 0.
+fn write_line(out: &mut [u8], n: usize) {
+    if n > 0 {
+        let end = hex::put_text(out, n, b"\n");
+        if end <= out.len() {
+            let start = 0;
+            io::write_all(1, &out[start..end]);
+        }
     }
-    over(session)
 }
 
-fn read_some(state: State, line: &mut [u8]) -> State {
-    let mut buf = io::large_buffer();
-    let got = libc::read(0, &mut buf);
-    if got <= 0 {
-        return last(state, line);
-    }
-    let n = io::count(got, &buf);
-    feed(state, line, &buf[..n])
+// The line's first len bytes are answered.
+fn answer_line(session: Session, line: &[u8; 65537], len: usize) -> Session {
+    let mut out = [0u8; 163840];
+    let next = commands::answer(session, first_bytes(line, len), &mut out);
+    write_line(&mut out, next.end);
+    next
 }
 
-// A proved loop has to end, and nothing says that the input does: the turns count down from a number that no run uses up.
-fn run(state: State, line: &mut [u8]) {
-    let mut next = state;
+// The turns count down as in `next_line`.
+fn run(first: Session) {
+    let mut buf = [0u8; 65536];
+    let mut line = [0u8; 65537];
+    let mut next = first;
+    let mut r = Reading {
+        at: 0,
+        n: 0,
+        len: 0,
+        over: false,
+    };
     let mut turns = u64::MAX;
-    while turns > 0 && !next.over {
-        next = read_some(next, line);
+    while turns > 0 && !r.over {
+        r = next_line(r, &mut buf, &mut line);
+        next = answer_line(next, &line, r.len);
         turns -= 1;
     }
 }
 
-fn start(session: Session) {
-    let mut line = [0u8; 65537];
-    run(
-        State {
-            session,
-            len: 0,
-            over: false,
-        },
-        &mut line,
-    );
-}
-
 fn main() {
     match card::from_model_params(false, &[], &[], &[], &[], &mut []) {
-        CardAnswer::Done(device, _) => start(replies::first_session(device)),
+        CardAnswer::Done(device, _) => run(replies::first_session(device)),
         CardAnswer::Refused(_) => {}
     }
 }

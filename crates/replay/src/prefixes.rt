@@ -1,4 +1,5 @@
 // The first n places of a slice, or all where there are fewer.
+ghost use Prim.Native.Nat.{_≤_};
 ghost use mathlib.Core.Path.{_≡_};
 ghost use lib.ListN.{take};
 
@@ -40,4 +41,11 @@ pub fn first_bytes<'a>(bytes: &'a [u8], n: usize) -> &'a [u8]
         return &bytes[start..n];
     }
     bytes
+}
+
+// The lesser of two counts. The functions that hand a device on cut by it, so that they need no test of their own.
+pub fn at_most(n: usize, most: usize) -> usize
+    ensures { λ r. ⌜ r ≤ most ⌝ }
+{
+    if n < most { n } else { most }
 }

@@ -1,44 +1,38 @@
 // What a command answers, and its text.
 use crate::answers::put_between;
 use crate::answers::put_each;
-use crate::answers::put_next;
 use crate::answers::put_next_whole;
 use crate::answers::put_node;
-use crate::answers::put_places;
-use crate::device_text;
+use crate::script::word::word;
 use bias::Answer;
 use device::Mosfet1;
 use device::NodeId;
 use model::small_signal::FiveReactances;
 use model::small_signal::Reactance;
 
+// What a call answers. It holds no device, which would make every function that answers one dear to check.
 pub enum Reply {
     Bad,
     Refused(u8),
-    Card(usize),
-    Geometry(usize),
     Scaled,
     Bound(usize, NodeId, NodeId),
     Evaluated(Answer),
-    Resolved,
     Committed,
     Quiet,
     Noise(NodeId, NodeId, f64),
     Capacitors(FiveReactances),
-    Nothing,
-    State(Mosfet1),
     Reset,
-    One(f64),
-    Two(f64, f64),
 }
 
 // What is kept between two lines: the device, whether a `resolve` was accepted, and the cells of the last that was. Before any card
-// the device is that of a card with no keys, and is not present: calls are tested on it and none is accepted.
+// the device is that of a card with no keys, and is not present: calls are tested on it and none is accepted. The last answer's text
+// ends at `end`.
 pub struct Session {
     pub device: Mosfet1,
     pub present: bool,
     pub resolved: bool,
     pub cells: [usize; 37],
+    pub end: usize,
 }
 
 // The session before any call, by the device of a card with no keys.
@@ -49,17 +43,23 @@ pub fn first_session(device: Mosfet1) -> Session {
         present: false,
         resolved: false,
         cells,
+        end: 0,
     }
 }
 
-// The session that a call leaves, and what it answers.
-pub struct Told {
-    pub session: Session,
-    pub reply: Reply,
+// The session with another device, after an answer that ends at `end`.
+pub fn left(session: Session, device: Mosfet1, end: usize) -> Session {
+    let mut next = session;
+    next.device = device;
+    next.end = end;
+    next
 }
 
-pub fn tell(session: Session, reply: Reply) -> Told {
-    Told { session, reply }
+// The session with the device as it was.
+pub fn ended(session: Session, end: usize) -> Session {
+    let mut next = session;
+    next.end = end;
+    next
 }
 
 // The device that a call leaves, and what it answers.
@@ -104,13 +104,7 @@ fn put_capacitors(out: &mut [u8], five: FiveReactances) -> usize {
     put_reactance(out, n, bd)
 }
 
-// A word and the places of the unknown keys.
-fn put_keys(out: &mut [u8], word: &[u8], places: &[usize], count: usize) -> usize {
-    let n = hex::put_text(out, 0, word);
-    put_places(out, n, places, count)
-}
-
-fn put_refused(out: &mut [u8], row: u8) -> usize {
+pub fn put_refused(out: &mut [u8], row: u8) -> usize {
     let n = hex::put_text(out, 0, b"refused");
     put_next_whole(out, n, row as u64)
 }
@@ -120,35 +114,27 @@ fn put_noise(out: &mut [u8], pos: NodeId, neg: NodeId, density: f64) -> usize {
     put_between(out, n, pos, neg, density)
 }
 
-fn put_one(out: &mut [u8], x: f64) -> usize {
-    let n = hex::put_text(out, 0, b"call");
-    put_next(out, n, x)
+// An answer of one word, by its number.
+fn put_word(out: &mut [u8], k: usize) -> usize {
+    hex::put_text(out, 0, word(b"bad scale commit noise reset", k))
 }
 
-fn put_two(out: &mut [u8], x: f64, y: f64) -> usize {
-    let n = put_one(out, x);
-    put_next(out, n, y)
+pub fn put_bad(out: &mut [u8]) -> usize {
+    put_word(out, 0)
 }
 
-// The reply's text from the start of out on; `places` has those of the unknown keys first.
-pub fn put_reply(out: &mut [u8], reply: Reply, places: &[usize]) -> usize {
+// The reply's text from the start of out on.
+pub fn put_reply(out: &mut [u8], reply: Reply) -> usize {
     match reply {
-        Reply::Bad => hex::put_text(out, 0, b"bad"),
+        Reply::Bad => put_word(out, 0),
         Reply::Refused(row) => put_refused(out, row),
-        Reply::Card(count) => put_keys(out, b"card", places, count),
-        Reply::Geometry(count) => put_keys(out, b"geometry", places, count),
-        Reply::Scaled => hex::put_text(out, 0, b"scale"),
+        Reply::Scaled => put_word(out, 1),
         Reply::Bound(extra, drain, source) => put_bound(out, extra, drain, source),
         Reply::Evaluated(a) => put_evaluated(out, a),
-        Reply::Resolved => hex::put_text(out, 0, b"resolve"),
-        Reply::Committed => hex::put_text(out, 0, b"commit"),
-        Reply::Quiet => hex::put_text(out, 0, b"noise"),
+        Reply::Committed => put_word(out, 2),
+        Reply::Quiet => put_word(out, 3),
         Reply::Noise(pos, neg, density) => put_noise(out, pos, neg, density),
         Reply::Capacitors(five) => put_capacitors(out, five),
-        Reply::Nothing => hex::put_text(out, 0, b"state nothing"),
-        Reply::State(d) => device_text::put_state(out, 0, d),
-        Reply::Reset => hex::put_text(out, 0, b"reset"),
-        Reply::One(x) => put_one(out, x),
-        Reply::Two(x, y) => put_two(out, x, y),
+        Reply::Reset => put_word(out, 4),
     }
 }
