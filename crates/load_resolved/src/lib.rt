@@ -5,6 +5,8 @@
 use device::Charges;
 use device::Mosfet1;
 use device::OperatingPoint;
+use device::Stage;
+use device::Terminals;
 use loading::LoadAnswer;
 use loading::LoadKind;
 use places::Nodes;
@@ -12,9 +14,9 @@ use stamps::ChargeBranch;
 use stamps::ChargeBranches;
 ghost use Prim.Native.Nat.{_+_, _<_};
 ghost use mathlib.Core.Path.{_≡_};
-ghost use mathlib.Core.Bool.{true, not, _&&_, _||_};
+ghost use mathlib.Core.Bool.{true, false, not, _&&_, _||_};
 ghost use mathlib.Core.List.{[]};
-ghost use lib.ListN.{getD};
+ghost use lib.ListN.{length, getD};
 ghost use lib.Dec.{eqb};
 ghost use lib.Ieee.{neg};
 ghost use Rattle.exact.specs.Float64.{_⊕_, +0};
@@ -52,23 +54,24 @@ fn cell_there(row: usize, column: usize, place: usize, len: usize) -> bool
     place < len
 }
 
-// The four cells of a conductance between the nodes a and b, and what else was asked.
-fn four_there(
-    a: usize,
-    b: usize,
-    aa: usize,
-    ab: usize,
-    ba: usize,
-    bb: usize,
-    len: usize,
-    rest: bool,
-) -> bool
-    ensures { λ r. ⌜ r ≡ (cellThere len a a aa && (cellThere len a b ab && (cellThere len b a ba && (cellThere len b b bb && rest)))) ⌝ }
+// The cell of the k-th number, and what else was asked. Reading it here keeps the callers short.
+fn cell_at(row: usize, column: usize, cells: &[usize; 37], k: usize, len: usize, rest: bool) -> bool
+    requires { ⌜ k < 37 ⌝ }
+    ensures { λ r. ⌜ r ≡ (cellThere len row column (getD (now (cells .entry)) k 0) && rest) ⌝ }
 {
-    let last = both(cell_there(b, b, bb, len), rest);
-    let third = both(cell_there(b, a, ba, len), last);
-    let second = both(cell_there(a, b, ab, len), third);
-    both(cell_there(a, a, aa, len), second)
+    both(cell_there(row, column, cells[k], len), rest)
+}
+
+// The four cells from k on of a conductance between the nodes a and b, and what else was asked.
+fn four_there(a: usize, b: usize, cells: &[usize; 37], k: usize, len: usize, rest: bool) -> bool
+    requires { ⌜ k + 3 < 37 ⌝ }
+    ensures { λ r. ⌜ r ≡ (cellThere len a a (getD (now (cells .entry)) k 0) && (cellThere len a b (getD (now (cells .entry)) (k + 1) 0)
+        && (cellThere len b a (getD (now (cells .entry)) (k + 2) 0) && (cellThere len b b (getD (now (cells .entry)) (k + 3) 0) && rest)))) ⌝ }
+{
+    let last = cell_at(b, b, cells, k + 3, len, rest);
+    let third = cell_at(b, a, cells, k + 2, len, last);
+    let second = cell_at(a, b, cells, k + 1, len, third);
+    cell_at(a, a, cells, k, len, second)
 }
 
 // The channel's eight cells, and what else was asked.
@@ -78,66 +81,47 @@ fn channel_there(n: Nodes, cells: &[usize; 37], len: usize, rest: bool) -> bool
         && (cellThere len (n .source) (n .gate) (getD (now (cells .entry)) 12 0) && (cellThere len (n .source) (n .drain) (getD (now (cells .entry)) 13 0)
         && (cellThere len (n .source) (n .source) (getD (now (cells .entry)) 14 0) && (cellThere len (n .source) (n .bulk) (getD (now (cells .entry)) 15 0) && rest)))))))) ⌝ }
 {
-    let sb = both(cell_there(n.source, n.bulk, cells[15], len), rest);
-    let ss = both(cell_there(n.source, n.source, cells[14], len), sb);
-    let sd = both(cell_there(n.source, n.drain, cells[13], len), ss);
-    let sg = both(cell_there(n.source, n.gate, cells[12], len), sd);
-    let db = both(cell_there(n.drain, n.bulk, cells[11], len), sg);
-    let ds = both(cell_there(n.drain, n.source, cells[10], len), db);
-    let dd = both(cell_there(n.drain, n.drain, cells[9], len), ds);
-    both(cell_there(n.drain, n.gate, cells[8], len), dd)
+    let sb = cell_at(n.source, n.bulk, cells, 15, len, rest);
+    let ss = cell_at(n.source, n.source, cells, 14, len, sb);
+    let sd = cell_at(n.source, n.drain, cells, 13, len, ss);
+    let sg = cell_at(n.source, n.gate, cells, 12, len, sd);
+    let db = cell_at(n.drain, n.bulk, cells, 11, len, sg);
+    let ds = cell_at(n.drain, n.source, cells, 10, len, db);
+    let dd = cell_at(n.drain, n.drain, cells, 9, len, ds);
+    cell_at(n.drain, n.gate, cells, 8, len, dd)
 }
 
 // The 24 pairs' cells.
 fn pairs_there(n: Nodes, cells: &[usize; 37], len: usize) -> bool
     ensures { λ r. ⌜ r ≡ pairsStored len (jacPairsOf (terminalsAt n)) (numbersFrom (now (cells .entry)) 8 24) ⌝ }
 {
-    let d = n.drain;
-    let s = n.source;
-    let b = n.bulk;
-    let bd = four_there(b, d, cells[28], cells[29], cells[30], cells[31], len, true);
-    let bs = four_there(b, s, cells[24], cells[25], cells[26], cells[27], len, bd);
-    let rs = four_there(
-        n.source_ext,
-        s,
-        cells[20],
-        cells[21],
-        cells[22],
-        cells[23],
-        len,
-        bs,
-    );
-    let rd = four_there(
-        n.drain_ext,
-        d,
-        cells[16],
-        cells[17],
-        cells[18],
-        cells[19],
-        len,
-        rs,
-    );
+    let bd = four_there(n.bulk, n.drain, cells, 28, len, true);
+    let bs = four_there(n.bulk, n.source, cells, 24, len, bd);
+    let rs = four_there(n.source_ext, n.source, cells, 20, len, bs);
+    let rd = four_there(n.drain_ext, n.drain, cells, 16, len, rs);
     channel_there(n, cells, len, rd)
 }
 
-// A charge branch's four cells, where it conducts.
+// A charge branch's four cells, where it conducts, by the indices of their numbers.
 fn branch_there(
     conducts: bool,
     a: usize,
     b: usize,
+    cells: &[usize; 37],
     aa: usize,
     ab: usize,
     bb: usize,
     ba: usize,
     len: usize,
 ) -> bool
-    ensures { λ r. ⌜ r ≡ branchStored len conducts a b aa ab bb ba ⌝ }
+    requires { ⌜ (aa < 37) × ((ab < 37) × ((bb < 37) × (ba < 37))) ⌝ }
+    ensures { λ r. ⌜ r ≡ branchStored len conducts a b (getD (now (cells .entry)) aa 0) (getD (now (cells .entry)) ab 0) (getD (now (cells .entry)) bb 0) (getD (now (cells .entry)) ba 0) ⌝ }
 {
     if conducts {
-        let last = both(cell_there(b, a, ba, len), true);
-        let third = both(cell_there(b, b, bb, len), last);
-        let second = both(cell_there(a, b, ab, len), third);
-        return both(cell_there(a, a, aa, len), second);
+        let last = cell_at(b, a, cells, ba, len, true);
+        let third = cell_at(b, b, cells, bb, len, last);
+        let second = cell_at(a, b, cells, ab, len, third);
+        return cell_at(a, a, cells, aa, len, second);
     }
     true
 }
@@ -149,56 +133,11 @@ fn branches_there(n: Nodes, cells: &[usize; 37], len: usize, q: Charges) -> bool
     let g = n.gate;
     let s = n.source;
     let b = n.bulk;
-    let gs = branch_there(
-        q.cgs_eval != 0.0,
-        g,
-        s,
-        cells[32],
-        cells[33],
-        cells[14],
-        cells[12],
-        len,
-    );
-    let gd = branch_there(
-        q.cgd_eval != 0.0,
-        g,
-        d,
-        cells[32],
-        cells[34],
-        cells[9],
-        cells[8],
-        len,
-    );
-    let gb = branch_there(
-        q.cgb_eval != 0.0,
-        g,
-        b,
-        cells[32],
-        cells[35],
-        cells[24],
-        cells[36],
-        len,
-    );
-    let bs = branch_there(
-        q.cbs_eval != 0.0,
-        b,
-        s,
-        cells[24],
-        cells[25],
-        cells[14],
-        cells[15],
-        len,
-    );
-    let bd = branch_there(
-        q.cbd_eval != 0.0,
-        b,
-        d,
-        cells[24],
-        cells[29],
-        cells[9],
-        cells[11],
-        len,
-    );
+    let gs = branch_there(q.cgs_eval != 0.0, g, s, cells, 32, 33, 14, 12, len);
+    let gd = branch_there(q.cgd_eval != 0.0, g, d, cells, 32, 34, 9, 8, len);
+    let gb = branch_there(q.cgb_eval != 0.0, g, b, cells, 32, 35, 24, 36, len);
+    let bs = branch_there(q.cbs_eval != 0.0, b, s, cells, 24, 25, 14, 15, len);
+    let bd = branch_there(q.cbd_eval != 0.0, b, d, cells, 24, 29, 9, 11, len);
     let two = both(gs, gd);
     let three = both(two, gb);
     let four = both(three, bs);
@@ -257,13 +196,33 @@ fn is_transient(kind: LoadKind) -> bool
     }
 }
 
+// Row 8. `inside` says that it is known not to apply; then the nodes are not asked again.
+fn outside(inside: bool, stage: Stage, t: Terminals, len: usize, rows: usize) -> bool
+    requires { ⌜ (inside ≡ true → nodesOutside stage t len rows ≡ false) ⌝ }
+    ensures { λ r. ⌜ r ≡ nodesOutside stage t len rows ⌝ }
+{
+    if inside {
+        return false;
+    }
+    loading::nodes_outside(stage, t, len, rows)
+}
+
 // Rows 8, 10, 11 and 12 in this order, 0 where none applies. The stored row and value counts stand for the pattern's.
-fn early_row(d: Mosfet1, kind: LoadKind, rhs: usize, values: usize, rows: usize, count: usize) -> u8
+fn early_row(
+    d: Mosfet1,
+    kind: LoadKind,
+    inside: bool,
+    rhs: usize,
+    values: usize,
+    rows: usize,
+    count: usize,
+) -> u8
+    requires { ⌜ (inside ≡ true → nodesOutside (d .stage) (d .terminals) rhs rows ≡ false) ⌝ }
     ensures { λ r. ⌜ r ≡ earlyRow (nodesOutside (d .stage) (d .terminals) rhs rows) (unevaluated (d .stage)) (alphaOutside (d .disc) kind) (not (eqb values count)) ⌝ }
 {
     let stage = d.stage;
     let disc = d.disc;
-    if loading::nodes_outside(stage, d.terminals, rhs, rows) {
+    if outside(inside, stage, d.terminals, rhs, rows) {
         return 8;
     }
     if loading::unevaluated(stage) {
@@ -279,12 +238,20 @@ fn early_row(d: Mosfet1, kind: LoadKind, rhs: usize, values: usize, rows: usize,
 }
 
 // The row that refuses a load into a right-hand side of so many rows and so many values, 0 where none does.
-fn resolved_row(d: Mosfet1, kind: LoadKind, cells: &[usize; 37], rhs: usize, values: usize) -> u8
+fn resolved_row(
+    d: Mosfet1,
+    kind: LoadKind,
+    inside: bool,
+    cells: &[usize; 37],
+    rhs: usize,
+    values: usize,
+) -> u8
+    requires { ⌜ (inside ≡ true → nodesOutside (d .stage) (d .terminals) rhs (getD (now cells) 6 0) ≡ false) ⌝ }
     ensures { λ r. ⌜ r ≡ resolvedRowOf d kind (now (cells .entry)) rhs values ⌝ }
 {
     let rows = cells[6];
     let count = cells[7];
-    let row = early_row(d, kind, rhs, values, rows, count);
+    let row = early_row(d, kind, inside, rhs, values, rows, count);
     if row != 0 {
         return row;
     }
@@ -650,17 +617,20 @@ fn add_charges(d: Mosfet1, alpha: f64, cells: &[usize; 37], rhs: &mut [f64], val
     add_histories(rhs, n, b);
 }
 
-// A load by cells that were looked up before. A refused one leaves both slices as they were.
-pub fn load_resolved(
+// A load by cells that were looked up before. `inside` says that the caller knows of every node that it is below both row counts: row 8
+// is asked for only where it is false. A refused load leaves both slices as they were.
+pub fn load_known(
     d: Mosfet1,
     kind: LoadKind,
+    inside: bool,
     cells: &[usize; 37],
     rhs: &mut [f64],
     values: &mut [f64],
 ) -> LoadAnswer
+    requires { ⌜ (inside ≡ true → nodesOutside (d .stage) (d .terminals) (length (now rhs)) (getD (now cells) 6 0) ≡ false) ⌝ }
     ensures { λ r. ⌜ LoadedResolved d kind (now (cells .entry)) (now (rhs .entry)) (now (values .entry)) (outcomeOfLoad r) (now (rhs .exit)) (now (values .exit)) ⌝ }
 {
-    let row = resolved_row(d, kind, cells, rhs.len(), values.len());
+    let row = resolved_row(d, kind, inside, cells, rhs.len(), values.len());
     if row != 0 {
         return LoadAnswer::Refused(row);
     }
@@ -670,4 +640,17 @@ pub fn load_resolved(
         LoadKind::Transient(alpha) => add_charges(d, alpha, cells, rhs, values),
     }
     LoadAnswer::Done
+}
+
+// The same where nothing is known of the nodes.
+pub fn load_resolved(
+    d: Mosfet1,
+    kind: LoadKind,
+    cells: &[usize; 37],
+    rhs: &mut [f64],
+    values: &mut [f64],
+) -> LoadAnswer
+    ensures { λ r. ⌜ LoadedResolved d kind (now (cells .entry)) (now (rhs .entry)) (now (values .entry)) (outcomeOfLoad r) (now (rhs .exit)) (now (values .exit)) ⌝ }
+{
+    load_known(d, kind, false, cells, rhs, values)
 }

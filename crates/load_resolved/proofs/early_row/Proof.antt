@@ -5,40 +5,40 @@ use borrow.Author.Needs.{needs}
 use Rattle.load_resolved.proofs.early_row.Statement.{statement}
 use Rattle.load_resolved.proofs.early_row.Tie as tie
 
-nodes-outside-requires : tie.Need-nodes-outside-requires
-nodes-outside-requires c κs = search needs
+outside-requires : tie.Need-outside-requires
+outside-requires c κs = c .pre
 
 returns : tie.Need-returns
 unfolding earlyRow
-returns c = rw (← c .before .nodes-outside .ensures, c .if1 .taken)
+returns c = rw (← c .before .outside .ensures, c .if1 .taken)
 
 unevaluated-requires : tie.Need-unevaluated-requires
 unevaluated-requires c κs = search needs
 
 returns-2 : tie.Need-returns-2
 unfolding earlyRow
-returns-2 c = rw (← c .before .before .before .nodes-outside .ensures, c .before .before .if1 .left, ← c .before .unevaluated .ensures, c .if2 .taken)
+returns-2 c = rw (← c .before .before .before .outside .ensures, c .before .before .if1 .left, ← c .before .unevaluated .ensures, c .if2 .taken)
 
 alpha-outside-requires : tie.Need-alpha-outside-requires
 alpha-outside-requires c κs = search needs
 
 returns-3 : tie.Need-returns-3
 unfolding earlyRow
-returns-3 c = rw (← c .before .before .before .before .before .nodes-outside .ensures, c .before .before .before .before .if1 .left, ← c .before .before .before .unevaluated .ensures, c .before .before .if2 .left, ← c .before .alpha-outside .ensures, c .if3 .taken)
+returns-3 c = rw (← c .before .before .before .before .before .outside .ensures, c .before .before .before .before .if1 .left, ← c .before .before .before .unevaluated .ensures, c .before .before .if2 .left, ← c .before .alpha-outside .ensures, c .if3 .taken)
 
 returns-4 : tie.Need-returns-4
 unfolding earlyRow
-returns-4 c = rw (← c .before .before .before .before .before .before .nodes-outside .ensures, c .before .before .before .before .before .if1 .left, ← c .before .before .before .before .unevaluated .ensures, c .before .before .before .if2 .left, ← c .before .before .alpha-outside .ensures, c .before .if3 .left, ne-eqb _ _ (c .if4 .taken))
+returns-4 c = rw (← c .before .before .before .before .before .before .outside .ensures, c .before .before .before .before .before .if1 .left, ← c .before .before .before .before .unevaluated .ensures, c .before .before .before .if2 .left, ← c .before .before .alpha-outside .ensures, c .before .if3 .left, ne-eqb _ _ (c .if4 .taken))
 
 returns-5 : tie.Need-returns-5
 unfolding earlyRow
-returns-5 c = rw (← c .before .before .before .before .before .before .nodes-outside .ensures, c .before .before .before .before .before .if1 .left, ← c .before .before .before .before .unevaluated .ensures, c .before .before .before .if2 .left, ← c .before .before .alpha-outside .ensures, c .before .if3 .left, eq-eqb _ _ (c .if4 .left))
+returns-5 c = rw (← c .before .before .before .before .before .before .outside .ensures, c .before .before .before .before .before .if1 .left, ← c .before .before .before .before .unevaluated .ensures, c .before .before .before .if2 .left, ← c .before .before .alpha-outside .ensures, c .before .if3 .left, eq-eqb _ _ (c .if4 .left))
 
 pub early-row-spec : {M : Type 1} → statement M
 early-row-spec =
     tie.close
     (tie.spec
-    nodes-outside-requires
+    outside-requires
     returns
     unevaluated-requires
     returns-2

@@ -12,62 +12,14 @@ use borrow.Author.Needs.{needs}
 use Rattle.load_resolved.proofs.pairs_there.Statement.{statement}
 use Rattle.load_resolved.proofs.pairs_there.Tie as tie
 
-element-copy-out-four-there : tie.Need-element-copy-out-four-there
-element-copy-out-four-there c = search needs
-
-element-copy-out-four-there-2 : tie.Need-element-copy-out-four-there-2
-element-copy-out-four-there-2 c = search needs
-
-element-copy-out-four-there-3 : tie.Need-element-copy-out-four-there-3
-element-copy-out-four-there-3 c = search needs
-
-element-copy-out-four-there-4 : tie.Need-element-copy-out-four-there-4
-element-copy-out-four-there-4 c = search needs
-
 four-there-requires : tie.Need-four-there-requires
 four-there-requires c κs = search needs
-
-element-copy-out-four-there-5 : tie.Need-element-copy-out-four-there-5
-element-copy-out-four-there-5 c = search needs
-
-element-copy-out-four-there-6 : tie.Need-element-copy-out-four-there-6
-element-copy-out-four-there-6 c = search needs
-
-element-copy-out-four-there-7 : tie.Need-element-copy-out-four-there-7
-element-copy-out-four-there-7 c = search needs
-
-element-copy-out-four-there-8 : tie.Need-element-copy-out-four-there-8
-element-copy-out-four-there-8 c = search needs
 
 four-there-requires-2 : tie.Need-four-there-requires-2
 four-there-requires-2 c κs = search needs
 
-element-copy-out-four-there-9 : tie.Need-element-copy-out-four-there-9
-element-copy-out-four-there-9 c = search needs
-
-element-copy-out-four-there-10 : tie.Need-element-copy-out-four-there-10
-element-copy-out-four-there-10 c = search needs
-
-element-copy-out-four-there-11 : tie.Need-element-copy-out-four-there-11
-element-copy-out-four-there-11 c = search needs
-
-element-copy-out-four-there-12 : tie.Need-element-copy-out-four-there-12
-element-copy-out-four-there-12 c = search needs
-
 four-there-requires-3 : tie.Need-four-there-requires-3
 four-there-requires-3 c κs = search needs
-
-element-copy-out-four-there-13 : tie.Need-element-copy-out-four-there-13
-element-copy-out-four-there-13 c = search needs
-
-element-copy-out-four-there-14 : tie.Need-element-copy-out-four-there-14
-element-copy-out-four-there-14 c = search needs
-
-element-copy-out-four-there-15 : tie.Need-element-copy-out-four-there-15
-element-copy-out-four-there-15 c = search needs
-
-element-copy-out-four-there-16 : tie.Need-element-copy-out-four-there-16
-element-copy-out-four-there-16 c = search needs
 
 four-there-requires-4 : tie.Need-four-there-requires-4
 four-there-requires-4 c κs = search needs
@@ -78,7 +30,7 @@ channel-there-requires c κs = search needs
 returns : tie.Need-returns
 unfolding pairsStored jacPairsOf terminalsAt numbersFrom cellThere
 returns c =
-    let s = c .before .before .before .before .before .before .before .before .before .before .before .before .before .before .before .before .before .before .before .before .before in
+    let s = c .before .before .before .before .before in
     let w = now (s .args .cells) in
     let n = s .args .len in
     let t = s .args .n in
@@ -89,9 +41,9 @@ returns c =
     let bsPairs = pairBetween b s' bdPairs in
     let rsPairs = pairBetween (nodeAt (t .«source_ext»)) s' bsPairs in
     let rdPairs = pairBetween (nodeAt (t .«drain_ext»)) d rsPairs in
-    let bd = c .before .before .before .before .before .before .before .before .before .before .before .before .before .before .before .before .four-there .ensures ∙ four-there n w 28 0 true (t .bulk) (t .drain) [] refl in
-    let bs = c .before .before .before .before .before .before .before .before .before .before .before .four-there2 .ensures ∙ four-there n w 24 4 _ (t .bulk) (t .source) bdPairs bd in
-    let rs = c .before .before .before .before .before .before .four-there3 .ensures ∙ four-there n w 20 8 _ (t .«source_ext») (t .source) bsPairs bs in
+    let bd = c .before .before .before .before .four-there .ensures ∙ four-there n w 28 0 true (t .bulk) (t .drain) [] refl in
+    let bs = c .before .before .before .four-there2 .ensures ∙ four-there n w 24 4 _ (t .bulk) (t .source) bdPairs bd in
+    let rs = c .before .before .four-there3 .ensures ∙ four-there n w 20 8 _ (t .«source_ext») (t .source) bsPairs bs in
     let rd = c .before .four-there4 .ensures ∙ four-there n w 16 12 _ (t .«drain_ext») (t .drain) rsPairs rs in
     c .channel-there .ensures ∙ eight-there n w 8 16 _ (t .drain) (t .gate) (t .source) (t .bulk) rdPairs rd
 
@@ -99,25 +51,9 @@ pub pairs-there-spec : {M : Type 1} → statement M
 pairs-there-spec =
     tie.close
     (tie.spec
-    element-copy-out-four-there
-    element-copy-out-four-there-2
-    element-copy-out-four-there-3
-    element-copy-out-four-there-4
     four-there-requires
-    element-copy-out-four-there-5
-    element-copy-out-four-there-6
-    element-copy-out-four-there-7
-    element-copy-out-four-there-8
     four-there-requires-2
-    element-copy-out-four-there-9
-    element-copy-out-four-there-10
-    element-copy-out-four-there-11
-    element-copy-out-four-there-12
     four-there-requires-3
-    element-copy-out-four-there-13
-    element-copy-out-four-there-14
-    element-copy-out-four-there-15
-    element-copy-out-four-there-16
     four-there-requires-4
     channel-there-requires
     returns)
