@@ -1,1 +1,2 @@
 pub mod Resolved
+pub mod Inside

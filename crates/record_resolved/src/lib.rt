@@ -1,9 +1,12 @@
 // Looking up the cells of a device that is a record, and loading it by them.
 use record::DeviceRecord;
+use record::TerminalsRecord;
+ghost use Prim.Native.Nat.{_≤_};
 ghost use mathlib.Core.Path.{_≡_};
 ghost use Rattle.device.specs.Refusals.{number, valuesOr};
 ghost use Rattle.resolve.specs.Resolve.{noCells};
 ghost use Rattle.record_resolved.specs.Resolved.{resolveCall, loadResolvedCall, resolvedSide, resolvedMatrix};
+ghost use Rattle.record_resolved.specs.Inside.{indicesBelow};
 
 // The cells, and the number of the refusal; a refused call answers zeros.
 #[repr(C)]
@@ -81,6 +84,38 @@ pub fn resolve(
     }
 }
 
+// The index of each of the six nodes is below n: then no node is outside n rows, whichever are ground. Asking the record's own fields is
+// much shorter than asking the nodes. Ground's index is 0 as the library writes it; where it is another, the nodes are asked.
+fn indices_below(t: TerminalsRecord, n: usize) -> bool
+    ensures { λ b. ⌜ b ≡ indicesBelow t n ⌝ }
+{
+    if n <= t.drain_ext.index {
+        return false;
+    }
+    if n <= t.source_ext.index {
+        return false;
+    }
+    if n <= t.drain.index {
+        return false;
+    }
+    if n <= t.gate.index {
+        return false;
+    }
+    if n <= t.source.index {
+        return false;
+    }
+    t.bulk.index < n
+}
+
+fn smaller(a: usize, b: usize) -> usize
+    ensures { λ n. ⌜ (n ≤ a) × (n ≤ b) ⌝ }
+{
+    if a < b {
+        return a;
+    }
+    b
+}
+
 // A load by cells; `transient` is 0 or 1. Answers the number of the refusal, 0 where both slices were loaded.
 pub fn load_resolved(
     r: DeviceRecord,
@@ -102,6 +137,7 @@ pub fn load_resolved(
     }
     let d = from_record::device_from(r);
     let kind = record_loading::kind_from(transient, alpha);
-    let a = load_resolved::load_resolved(d, kind, cells, rhs, values);
+    let inside = indices_below(r.terminals, smaller(rhs.len(), cells[6]));
+    let a = load_resolved::load_known(d, kind, inside, cells, rhs, values);
     record_loading::load_number(a)
 }
