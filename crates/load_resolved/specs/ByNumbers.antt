@@ -77,6 +77,15 @@ channelPairs n =
 unfoldable pub addChannel : Nodes → List ℕ → OperatingPoint → List Float → List Float
 addChannel n w p xs = addStored (paired (channelPairs n) (channelValues p [])) (numbersFrom w 8 8) xs
 
+-- four of them: the row of one node, its columns the gate, the drain, the source and the bulk
+unfoldable pub addRow : Nodes → ℕ → Float → Float → Float → Float → ℕ → ℕ → ℕ → ℕ → List Float → List Float
+addRow n row g d s b pg pd ps pb xs =
+    addStored
+    (paired
+    (position (nodeAt row) (nodeAt (n .gate)) ∷ position (nodeAt row) (nodeAt (n .drain)) ∷ position (nodeAt row) (nodeAt (n .source)) ∷ position (nodeAt row) (nodeAt (n .bulk)) ∷ [])
+    (g ∷ d ∷ s ∷ b ∷ []))
+    (pg ∷ pd ∷ ps ∷ pb ∷ []) xs
+
 -- a conductance between two nodes, in the order of the pairs
 unfoldable pub addPair : ℕ → ℕ → Float → ℕ → ℕ → ℕ → ℕ → List Float → List Float
 addPair a b g aa ab ba bb xs = addStored (paired (pairBetween (nodeAt a) (nodeAt b) []) (valuesBetween g [])) (aa ∷ ab ∷ ba ∷ bb ∷ []) xs

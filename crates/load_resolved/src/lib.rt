@@ -27,7 +27,7 @@ ghost use Rattle.adding.specs.Adding.{addAt, addAll, addSources, offsetSources}
 ghost use Rattle.assembly.specs.Assembly.{addPlace, paired};
 ghost use Rattle.loading.specs.Loading.{nodesOutside, alphaOutside, earlyRow, outcomeOfLoad};
 ghost use Rattle.load_resolved.specs.LoadResolved.{numbersFrom, storedPlace, addStored, resolvedRowOf, LoadedResolved};
-ghost use Rattle.load_resolved.specs.ByNumbers.{cellThere, pairsStored, branchStored, branchesStored, allBelow, nodesAre, held, isTransient, placeBetween, addChannel, addPair, addConductance, addBranch, addBranchesStored, historySources};
+ghost use Rattle.load_resolved.specs.ByNumbers.{cellThere, pairsStored, branchStored, branchesStored, allBelow, nodesAre, held, isTransient, placeBetween, addChannel, addRow, addPair, addConductance, addBranch, addBranchesStored, historySources};
 
 // The number of ground among the nodes, and of a place that is skipped.
 const SKIPPED: usize = 18446744073709551615;
@@ -302,29 +302,49 @@ fn add_cell(xs: &mut [f64], row: usize, column: usize, place: usize, x: f64)
     adding::add_at(xs, at, x);
 }
 
-// The channel's eight values where a node may be ground.
+// The channel's four values in one row, at the cells from k on, where a node may be ground.
+fn row_by_cell(
+    xs: &mut [f64],
+    row: usize,
+    n: Nodes,
+    cells: &[usize; 37],
+    k: usize,
+    g: f64,
+    d: f64,
+    s: f64,
+    b: f64,
+)
+    requires { ⌜ k + 3 < 37 ⌝ }
+    ensures { λ r. ⌜ now (xs .exit) ≡ addRow n row g d s b (getD (now (cells .entry)) k 0) (getD (now (cells .entry)) (k + 1) 0) (getD (now (cells .entry)) (k + 2) 0) (getD (now (cells .entry)) (k + 3) 0) (now (xs .entry)) ⌝ }
+{
+    add_cell(xs, row, n.gate, cells[k], g);
+    add_cell(xs, row, n.drain, cells[k + 1], d);
+    add_cell(xs, row, n.source, cells[k + 2], s);
+    add_cell(xs, row, n.bulk, cells[k + 3], b);
+}
+
 fn add_channel_by_cell(xs: &mut [f64], n: Nodes, cells: &[usize; 37], p: OperatingPoint)
     ensures { λ r. ⌜ now (xs .exit) ≡ addChannel n (now (cells .entry)) p (now (xs .entry)) ⌝ }
 {
-    let d = n.drain;
-    let g = n.gate;
-    let s = n.source;
-    let b = n.bulk;
     let gm = p.gm;
     let gds = p.gds;
     let gmbs = p.gmbs;
     let gms = gm + gds + gmbs;
-    add_cell(xs, d, g, cells[8], gm);
-    add_cell(xs, d, d, cells[9], gds);
-    add_cell(xs, d, s, cells[10], -gms);
-    add_cell(xs, d, b, cells[11], gmbs);
-    add_cell(xs, s, g, cells[12], -gm);
-    add_cell(xs, s, d, cells[13], -gds);
-    add_cell(xs, s, s, cells[14], gms);
-    add_cell(xs, s, b, cells[15], -gmbs);
+    row_by_cell(xs, n.drain, n, cells, 8, gm, gds, -gms, gmbs);
+    row_by_cell(xs, n.source, n, cells, 12, -gm, -gds, gms, -gmbs);
 }
 
 // The same where none is: every place counts.
+fn row_plain(xs: &mut [f64], cells: &[usize; 37], k: usize, g: f64, d: f64, s: f64, b: f64)
+    requires { ⌜ k + 3 < 37 ⌝ }
+    ensures { λ r. ⌜ now (xs .exit) ≡ addAt (addAt (addAt (addAt (now (xs .entry)) (getD (now (cells .entry)) k 0) g) (getD (now (cells .entry)) (k + 1) 0) d) (getD (now (cells .entry)) (k + 2) 0) s) (getD (now (cells .entry)) (k + 3) 0) b ⌝ }
+{
+    adding::add_at(xs, cells[k], g);
+    adding::add_at(xs, cells[k + 1], d);
+    adding::add_at(xs, cells[k + 2], s);
+    adding::add_at(xs, cells[k + 3], b);
+}
+
 fn add_channel_plain(xs: &mut [f64], cells: &[usize; 37], p: OperatingPoint)
     ensures { λ r. ⌜ now (xs .exit) ≡ addAll (now (xs .entry)) (numbersFrom (now (cells .entry)) 8 8) (channelValues p []) ⌝ }
 {
@@ -332,14 +352,8 @@ fn add_channel_plain(xs: &mut [f64], cells: &[usize; 37], p: OperatingPoint)
     let gds = p.gds;
     let gmbs = p.gmbs;
     let gms = gm + gds + gmbs;
-    adding::add_at(xs, cells[8], gm);
-    adding::add_at(xs, cells[9], gds);
-    adding::add_at(xs, cells[10], -gms);
-    adding::add_at(xs, cells[11], gmbs);
-    adding::add_at(xs, cells[12], -gm);
-    adding::add_at(xs, cells[13], -gds);
-    adding::add_at(xs, cells[14], gms);
-    adding::add_at(xs, cells[15], -gmbs);
+    row_plain(xs, cells, 8, gm, gds, -gms, gmbs);
+    row_plain(xs, cells, 12, -gm, -gds, gms, -gmbs);
 }
 
 // The channel's eight values. Ground is asked for once for all of them, not at each.
