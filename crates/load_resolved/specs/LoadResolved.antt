@@ -17,7 +17,7 @@ use Rattle.stamps.specs.declared.Position.{Position}
 use Rattle.stamps.specs.declared.ChargeBranch.{ChargeBranch}
 use Rattle.stamps.specs.declared.ChargeBranches.{ChargeBranches}
 use Rattle.places.specs.Places.{indexOf}
-unfoldable pub use Rattle.resolve.specs.Resolve.{numbersFrom}
+unfoldable pub use Rattle.loading.specs.Loading.{numbersFrom}
 use Rattle.assembly.specs.Assembly.{Contribution, Place, ground, at, addPlace, addSources}
 use Rattle.loading.specs.Loading.{nodesOutside, alphaOutside, branchesOf, jacobianContributions, rhsContributions, ifDone}
 use Rattle.loading.specs.declared.LoadKind.{LoadKind}

@@ -631,8 +631,8 @@ fn add_charges(d: Mosfet1, alpha: f64, cells: &[usize; 37], rhs: &mut [f64], val
     add_histories(rhs, n, b);
 }
 
-// A load by cells that were looked up before. `inside` says that the caller knows of every node that it is below both row counts: row 8
-// is asked for only where it is false. A refused load leaves both slices as they were.
+// A load by cells that were looked up before. `inside` says that the caller knows that row 8 does not apply; where it is false, nothing is
+// known, and the nodes are asked. A refused load leaves both slices as they were.
 pub fn load_known(
     d: Mosfet1,
     kind: LoadKind,

@@ -1,9 +1,9 @@
 -- A load: which row of the refusals applies, and what both slices hold afterwards.
-use Prim.Native.Nat.{ℕ}
+use Prim.Native.Nat.{ℕ, zero, suc}
 use mathlib.Core.Path.{_≡_}
 use mathlib.Core.Bool.{Bool, false, not, _&&_, _||_}
 use mathlib.Core.List.{List, [], _∷_}
-use lib.ListN.{length}
+use lib.ListN.{length, getD}
 use lib.Ieee.{Float, binary64, ofBits}
 use Rattle.exact.specs.Float64.{+0, +1}
 use Rattle.pattern.specs.Pattern.{wellFormed}
@@ -91,3 +91,8 @@ pub record Loaded (d : Mosfet1) (k : LoadKind) (P : Pattern) (rhs values : List 
 -- the first four rows, before the cells are looked up: the number of the one that refuses, 0 where none does
 unfoldable pub earlyRow : Bool → Bool → Bool → Bool → ℕ
 earlyRow row8 row10 row11 row12 = rowNumber ((8 when row8) ∷ (10 when row10) ∷ (11 when row11) ∷ (12 when row12) ∷ [])
+
+-- n of a list's numbers from the k-th on; for the lookup of cells and the load by them
+unfoldable pub numbersFrom : List ℕ → ℕ → ℕ → List ℕ
+numbersFrom w k zero = []
+numbersFrom w k (suc n) = getD w k 0 ∷ numbersFrom w (suc k) n

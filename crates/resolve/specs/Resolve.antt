@@ -1,9 +1,9 @@
 -- The cells of a bound device in a pattern, looked up once (`resolve_cells` of mosfet1.rs). They are 37 numbers that the caller holds, in
 -- place of the Rust's `jac_cells`.
-use Prim.Native.Nat.{ℕ, zero, suc}
+use Prim.Native.Nat.{ℕ}
 use mathlib.Core.Bool.{Bool, true, not, _&&_}
 use mathlib.Core.List.{List, [], _∷_, _++_}
-use lib.ListN.{length, getD}
+use lib.ListN.{length}
 use Rattle.pattern.specs.Pattern.{wellFormed}
 use Rattle.device.specs.Nodes.{anyNodeBeyond}
 use Rattle.device.specs.Refusals.{Row, unless, rowNumber, Outcome, done, refused, _when_}
@@ -14,6 +14,7 @@ use Rattle.stamps.specs.Stamps.{position, jacPairsOf}
 use Rattle.stamps.specs.declared.Position.{Position}
 use Rattle.places.specs.Places.{indexOf, numbersOf}
 use Rattle.assembly.specs.Assembly.{Pattern, placeOf, there}
+unfoldable pub use Rattle.loading.specs.Loading.{numbersFrom}
 
 -- the six nodes by their index; ground's number is 2^64 - 1
 unfoldable pub nodeNumbers : Terminals → List ℕ
@@ -31,11 +32,6 @@ gatePairsOf t =
 unfoldable pub resolvedCells : Terminals → Pattern → List ℕ
 resolvedCells t P =
     nodeNumbers t ++ (length (P .offsets) ∷ length (P .columns) ∷ []) ++ numbersOf P (jacPairsOf t) ++ numbersOf P (gatePairsOf t)
-
--- n of the numbers from the k-th on
-unfoldable pub numbersFrom : List ℕ → ℕ → ℕ → List ℕ
-numbersFrom w k zero = []
-numbersFrom w k (suc n) = getD w k 0 ∷ numbersFrom w (suc k) n
 
 -- each position without a ground end is in the pattern
 unfoldable pub positionsThere : Pattern → List Position → Bool
