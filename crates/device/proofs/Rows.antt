@@ -6,7 +6,7 @@ use Prim.Native.Nat.{ℕ}
 use native.Mathlib.Omega.{arith}
 use lib.Dec.{T, eqb}
 use borrow.Author.Tests.{eq-eqb}
-use Rattle.device.specs.Refusals.{Row, unless, rowNumber, Outcome, done, refused, valuesOr, _when_}
+use Rattle.device.specs.Refusals.{Row, unless, rowNumber, done, refused, valuesOr, _when_}
 use Rattle.device.proofs.Branches.{cond-no}
 
 -- no row applies

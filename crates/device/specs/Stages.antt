@@ -1,7 +1,7 @@
 -- The stages are a line: card, geometry, scaling, binding, evaluation.
 use Prim.Native.Nat.{ℕ}
 use mathlib.Core.Bool.{Bool}
-use lib.Dec.{ltb, leb}
+use lib.Dec.{ltb}
 use Rattle.device.specs.declared.Stage.{Stage}
 use Rattle.device.specs.declared.Stage.the-variants.{Card, Geometry, Scaled, Bound, Evaluated}
 

@@ -1,5 +1,5 @@
 -- Where every index is below the smaller of two row counts, row 8 does not apply, whichever nodes are ground.
-use mathlib.Core.Path.{_≡_, refl, sym, subst}
+use mathlib.Core.Path.{_≡_, refl}
 use mathlib.Core.Bool.{Bool, true, false, false≢true, cond, not, _&&_, _||_}
 use Prim.Native.Nat.{ℕ, _<_, _≤_}
 use native.Mathlib.Omega.{arith}
@@ -9,7 +9,6 @@ use Rattle.device.specs.Nodes.{nodeBeyond, anyNodeBeyond}
 use Rattle.device.specs.Stages.{unbound}
 use Rattle.device.specs.declared.NodeId.the-variants.{Ground, At}
 use Rattle.device.specs.declared.Stage.{Stage}
-use Rattle.device.specs.declared.Terminals.{Terminals}
 use Rattle.loading.specs.Loading.{nodesOutside}
 use Rattle.record.specs.declared.NodeRecord.{NodeRecord}
 use Rattle.record.specs.declared.TerminalsRecord.{TerminalsRecord}

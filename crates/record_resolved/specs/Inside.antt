@@ -2,7 +2,6 @@
 use Prim.Native.Nat.{ℕ}
 use mathlib.Core.Bool.{Bool, _&&_}
 use lib.Dec.{ltb}
-use Rattle.record.specs.declared.NodeRecord.{NodeRecord}
 use Rattle.record.specs.declared.TerminalsRecord.{TerminalsRecord}
 
 -- the index of each of the six nodes is below n

@@ -13,7 +13,7 @@ use Rattle.bias.specs.declared.Voltages.{Voltages}
 use Rattle.mosfet1.specs.Steps.{evaluatedChargesOf, evaluatedFromOf, evaluatedOf}
 use Rattle.mosfet1.specs.declared.steps.Conditions.{Conditions}
 use Rattle.rows.specs.Rows.{voltagesOf, evalRows, evalRowOf}
-use Rattle.device.proofs.Rows.{unless-either, by-number}
+use Rattle.device.proofs.Rows.{by-number}
 use Rattle.model.proofs.ByRow.{eval-by-row}
 use Rattle.model.specs.Calls.{evalOf, commitOf}
 use Rattle.record.specs.declared.DeviceOutcome.{DeviceOutcome}
