@@ -287,6 +287,7 @@ impl Device {
     }
 
     /// Evaluates at the node voltages `x`, in volts, one for each row.
+    #[inline]
     pub fn eval(&mut self, x: &[f64], conditions: Conditions) -> Result<AnswerRecord, Refusal> {
         let record = ConditionsRecord {
             temperature: conditions.temperature,
@@ -302,6 +303,7 @@ impl Device {
     }
 
     /// Adds the device to the right-hand side and the matrix.
+    #[inline]
     pub fn load(&self, load: Load, rhs: &mut [f64], matrix: Matrix) -> Result<(), Refusal> {
         let (transient, alpha) = load.numbers();
         // SAFETY: each pointer and count is a live slice's; both that are written are borrowed mutably, so they overlap none.
@@ -371,6 +373,7 @@ impl Device {
     /// # Ok(())
     /// # }
     /// ```
+    #[inline]
     pub fn load_resolved(&self, load: Load, cells: &Cells, rhs: &mut [f64], values: &mut [f64]) -> Result<(), Refusal> {
         let (transient, alpha) = load.numbers();
         // SAFETY: as for a load; the cells are only read.
@@ -389,6 +392,7 @@ impl Device {
     }
 
     /// Commits the step at the node voltages `x`: the evaluated charges become the last ones.
+    #[inline]
     pub fn commit_timestep(&mut self, x: &[f64]) -> Result<(), Refusal> {
         // SAFETY: as for an evaluation.
         accepted(unsafe { mivtolgya_commit_in_place(&mut self.record, x.as_ptr(), x.len()) })

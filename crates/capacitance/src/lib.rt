@@ -91,9 +91,9 @@ fn part(fc: f64, pb_t: f64, c0: f64, v: f64, m: f64) -> Depletion
     depl_above(fc, pb_t, c0, v, m, x.first, x.second)
 }
 
-// A junction's, by the powers of one base. Where it has no capacitance none is taken, and where a part has none only those of the other.
+// A junction's, by the powers of one base; where a part has no capacitance only those of the other are taken.
 // Seven numbers, since a struct would be written to memory and read back by each call.
-pub fn cj_and_q_depl(
+fn by_parts(
     fc: f64,
     pb_t: f64,
     mj: f64,
@@ -105,9 +105,6 @@ pub fn cj_and_q_depl(
     ensures { λ r. ⌜ (r .c ≡ cjGradedOf fc «pb_t» mj mjsw bottom sidewall v) × (r .q ≡ qGradedOf fc «pb_t» mj mjsw bottom sidewall v) ⌝ }
 {
     if bottom == 0.0 {
-        if sidewall == 0.0 {
-            return Depletion { c: 0.0, q: 0.0 };
-        }
         let s = part(fc, pb_t, sidewall, v, mjsw);
         return Depletion {
             c: 0.0 + s.c,
@@ -137,6 +134,26 @@ pub fn cj_and_q_depl(
         c: b.c + s.c,
         q: b.q + s.q,
     }
+}
+
+// The same. A junction without capacitance is told here: this test is copied into the caller, which then makes no call.
+pub fn cj_and_q_depl(
+    fc: f64,
+    pb_t: f64,
+    mj: f64,
+    mjsw: f64,
+    bottom: f64,
+    sidewall: f64,
+    v: f64,
+) -> Depletion
+    ensures { λ r. ⌜ (r .c ≡ cjGradedOf fc «pb_t» mj mjsw bottom sidewall v) × (r .q ≡ qGradedOf fc «pb_t» mj mjsw bottom sidewall v) ⌝ }
+{
+    if bottom == 0.0 {
+        if sidewall == 0.0 {
+            return Depletion { c: 0.0, q: 0.0 };
+        }
+    }
+    by_parts(fc, pb_t, mj, mjsw, bottom, sidewall, v)
 }
 
 // The bottom's or the sidewall's charge alone: below fc pb it takes one power.

@@ -27,12 +27,16 @@ evaluatedAnswerOf d v gmin limiter =
     channelAnswerOf (d .card) (d .geometry) (d .scaled) v
     (keptOf (d .card .polarity) (d .card .polarity ⊗ d .scaled .«vto_t») v limiter (d .point .«vgs_eff_prev») (d .point .«vds_eff_prev»)) gmin
 
--- the junctions' saturation currents with their temperature factor; the thermal voltage of the evaluation's own temperature
-unfoldable pub evaluatedPointOf : Mosfet1 → Voltages → Kelvin → Float → Answer → OperatingPoint
-evaluatedPointOf d v t gmin a =
+-- the junctions' saturation currents with their temperature factor, at the thermal voltage vt
+abbrev pub pointAt : Mosfet1 → Voltages → Float → Float → Answer → OperatingPoint
+pointAt d v vt gmin a =
     operatingPointOf (d .card .polarity) a (v .vb ⊖ v .vs)
-    (junctionStampOf (d .geometry .«isat_bs» ⊗ d .scaled .«isat_t_factor») (d .card .polarity) (v .vb ⊖ v .vs) (thermalVoltageOf t) gmin)
-    (junctionStampOf (d .geometry .«isat_bd» ⊗ d .scaled .«isat_t_factor») (d .card .polarity) (v .vb ⊖ v .vd) (thermalVoltageOf t) gmin)
+    (junctionStampOf (d .geometry .«isat_bs» ⊗ d .scaled .«isat_t_factor») (d .card .polarity) (v .vb ⊖ v .vs) vt gmin)
+    (junctionStampOf (d .geometry .«isat_bd» ⊗ d .scaled .«isat_t_factor») (d .card .polarity) (v .vb ⊖ v .vd) vt gmin)
+
+-- the thermal voltage is that of the evaluation's own temperature
+unfoldable pub evaluatedPointOf : Mosfet1 → Voltages → Kelvin → Float → Answer → OperatingPoint
+evaluatedPointOf d v t gmin a = pointAt d v (thermalVoltageOf t) gmin a
 
 -- without the transient flag the last transient evaluation's values stay
 unfoldable pub evaluatedChargesOf : Mosfet1 → Voltages → Bool → Answer → device.Charges

@@ -8,7 +8,7 @@ use device::OperatingPoint;
 use device::Stage;
 use temperature::Kelvin;
 ghost use mathlib.Core.Path.{_≡_};
-ghost use Rattle.mosfet1.specs.Steps.{evaluatedAnswerOf, evaluatedPointOf, evaluatedChargesOf, evaluatedOf};
+ghost use Rattle.mosfet1.specs.Steps.{evaluatedAnswerOf, pointAt, evaluatedChargesOf, evaluatedOf};
 
 // What an evaluation is handed besides the voltages. The temperature is read for the thermal voltage only.
 pub struct Conditions {
@@ -25,9 +25,9 @@ pub struct Evaluated {
 }
 
 // What an evaluation answers, and the operating point that it leaves.
-struct AnswerAndPoint {
-    answer: Answer,
-    point: OperatingPoint,
+pub struct AnswerAndPoint {
+    pub answer: Answer,
+    pub point: OperatingPoint,
 }
 
 fn evaluated_answer(d: Mosfet1, v: Voltages, gmin: f64, limiter: bool) -> Answer
@@ -49,16 +49,16 @@ fn evaluated_answer(d: Mosfet1, v: Voltages, gmin: f64, limiter: bool) -> Answer
 }
 
 // The exponentials of both junctions come first: they rest on the nodes' voltages alone, and the processor goes on with them while
-// the channel waits for its roots.
-fn answer_and_point(
+// the channel waits for its roots. The thermal voltage, a division on which they wait, is handed in.
+pub fn answer_and_point(
     d: Mosfet1,
     v: Voltages,
-    temperature: Kelvin,
+    vt: f64,
     gmin: f64,
     limiter: bool,
 ) -> AnswerAndPoint
     ensures { λ r. ⌜ (r .answer ≡ evaluatedAnswerOf d v gmin limiter)
-        × (r .point ≡ evaluatedPointOf d v temperature gmin (evaluatedAnswerOf d v gmin limiter)) ⌝ }
+        × (r .point ≡ pointAt d v vt gmin (evaluatedAnswerOf d v gmin limiter)) ⌝ }
 {
     let factor = d.scaled.isat_t_factor;
     let isat_bs = d.geometry.isat_bs * factor;
@@ -67,7 +67,6 @@ fn answer_and_point(
     let vb = v.vb;
     let vbs = vb - v.vs;
     let vbd = vb - v.vd;
-    let vt = junction::vt(temperature);
     let e_bs = junction::junction_exponential(isat_bs, pol * vbs, vt);
     let e_bd = junction::junction_exponential(isat_bd, pol * vbd, vt);
     let answer = evaluated_answer(d, v, gmin, limiter);
@@ -93,7 +92,8 @@ pub fn evaluate(d: Mosfet1, v: Voltages, transient: bool, k: Conditions) -> Eval
     ensures { λ r. ⌜ r ≡ evaluatedOf d v transient k ⌝ }
 {
     let disc = k.method;
-    let at = answer_and_point(d, v, k.temperature, k.gmin, k.limiter);
+    let vt = junction::vt(k.temperature);
+    let at = answer_and_point(d, v, vt, k.gmin, k.limiter);
     let answer = at.answer;
     let point = at.point;
     let charges = evaluated_charges(d, v, transient, answer);

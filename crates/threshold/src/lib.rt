@@ -3,6 +3,7 @@ use float::abs;
 use float::max;
 use float::signum;
 ghost use mathlib.Core.Path.{_≡_};
+ghost use Rattle.elementary.specs.Functions.{sqrtOf};
 ghost use Rattle.threshold.specs.Limiter.{limitedVgsOf, limitedVdsOf};
 ghost use Rattle.threshold.specs.Threshold.{bodyPotentialOf, thresholdOf, bodySlopeOf};
 
@@ -41,11 +42,26 @@ pub fn body_potential(phi_t: f64, vbs: f64) -> f64
     max(phi_t - vbs, 1e-10)
 }
 
+// The root of x. Where y is the same number, as with bulk and source at one voltage, its root is known and serves for both.
+fn root_beside(x: f64, y: f64, root: f64) -> f64
+    requires { ⌜ root ≡ sqrtOf y ⌝ }
+    ensures { λ r. ⌜ r ≡ sqrtOf x ⌝ }
+{
+    if x > 0.0 {
+        if y > 0.0 {
+            if f64::to_bits(x) == f64::to_bits(y) {
+                return root;
+            }
+        }
+    }
+    elementary::sqrt(x)
+}
+
 pub fn threshold(vto: f64, gamma: f64, phi_t: f64, phi_m_vbs: f64) -> f64
     ensures { λ r. ⌜ r ≡ thresholdOf vto gamma «phi_t» «phi_m_vbs» ⌝ }
 {
     let with_bias = elementary::sqrt(phi_m_vbs);
-    let without = elementary::sqrt(phi_t);
+    let without = root_beside(phi_t, phi_m_vbs, with_bias);
     vto + gamma * (with_bias - without)
 }
 
