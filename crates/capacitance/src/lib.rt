@@ -93,15 +93,7 @@ fn part(fc: f64, pb_t: f64, c0: f64, v: f64, m: f64) -> Depletion
 
 // A junction's, by the powers of one base; where a part has no capacitance only those of the other are taken.
 // Seven numbers, since a struct would be written to memory and read back by each call.
-fn by_parts(
-    fc: f64,
-    pb_t: f64,
-    mj: f64,
-    mjsw: f64,
-    bottom: f64,
-    sidewall: f64,
-    v: f64,
-) -> Depletion
+fn by_parts(fc: f64, pb_t: f64, mj: f64, mjsw: f64, bottom: f64, sidewall: f64, v: f64) -> Depletion
     ensures { λ r. ⌜ (r .c ≡ cjGradedOf fc «pb_t» mj mjsw bottom sidewall v) × (r .q ≡ qGradedOf fc «pb_t» mj mjsw bottom sidewall v) ⌝ }
 {
     if bottom == 0.0 {

@@ -1,2 +1,3 @@
 pub mod TagsAtOnce
 pub mod ThereAndBack
+pub mod Inside

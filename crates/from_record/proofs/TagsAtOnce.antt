@@ -10,10 +10,10 @@ use borrow.Author.Tests.{leb-true, leb-false, le-leb, lt-leb}
 use Rattle.record.specs.declared.DeviceRecord.{DeviceRecord}
 use Rattle.from_record.specs.Tags.{goodTerminals, goodHistories, goodStage, goodTags}
 
-or-above-l : (a b : ℕ) → a ≤ bitOr a b
+pub or-above-l : (a b : ℕ) → a ≤ bitOr a b
 or-above-l a b = omega (arith, or-add-and a b, and-le-r a b)
 
-or-above-r : (a b : ℕ) → b ≤ bitOr a b
+pub or-above-r : (a b : ℕ) → b ≤ bitOr a b
 or-above-r a b = omega (arith, or-add-and a b, and-le-l a b)
 
 by-both : (a b : ℕ) (s t : Bool) → leb a 1 ≡ s → leb b 1 ≡ t → leb (bitOr a b) 1 ≡ (s && t)

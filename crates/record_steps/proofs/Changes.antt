@@ -10,7 +10,8 @@ use Rattle.device.specs.Refusals.{Outcome, done, refused}
 use Rattle.device.specs.declared.Charges.{Charges}
 use Rattle.device.specs.declared.Mosfet1.{Mosfet1}
 use Rattle.bias.specs.declared.Voltages.{Voltages}
-use Rattle.mosfet1.specs.Steps.{evaluatedChargesOf, evaluatedFromOf, evaluatedOf}
+use Rattle.junction.specs.Junction.{thermalVoltageOf}
+use Rattle.mosfet1.specs.Steps.{evaluatedPointOf, evaluatedChargesOf, evaluatedFromOf, evaluatedOf}
 use Rattle.mosfet1.specs.declared.steps.Conditions.{Conditions}
 use Rattle.rows.specs.Rows.{voltagesOf, evalRows, evalRowOf}
 use Rattle.device.proofs.Rows.{by-number}
@@ -29,12 +30,12 @@ use Rattle.record_steps.specs.declared.ChangesOrRefusal.the-variants.{Tr
 use Rattle.record_steps.specs.declared.CommitChanges.{CommitChanges}
 use Rattle.record_steps.specs.declared.CommitAnswer.{CommitAnswer}
 use Rattle.record_steps.specs.declared.CommitAnswer.the-variants as CommitAnswer
-use Rattle.record_steps.specs.Steps.{EvaluationOutcome, goodConditions, conditionsFrom, refusedReply, refusedReading, refusedEvaluation, readOf, readingOf, evaluatedRecord, evaluatedOutcome, evaluationOutcome, evalCall, replyOf, changedRecord, outcomeFrom, evaluatedChanges, evaluateOf, chargesFrom, committedRecord, commitOutcome, commitCall, advancedRecord, commitGiven, commitRecordOf, commitOutcomeFrom}
+use Rattle.record_steps.specs.Steps.{EvaluationOutcome, goodConditions, conditionsFrom, refusedReply, refusedReading, refusedEvaluation, readOf, readingOf, evaluatedRecord, evaluatedOutcome, evaluationOutcome, evalCall, replyOf, changedRecord, outcomeFrom, changesAt, evaluateOf, chargesFrom, committedRecord, commitOutcome, commitCall, advancedRecord, commitGiven, commitRecordOf, commitOutcomeFrom}
 
 -- ---- the evaluation
 
 -- what was read by the number of the row that refuses, 0 where none does
-pub read-by-row : (d : Mosfet1) (x : List Float) (k : Conditions) → readOf d x k ≡ cond (eqb (evalRowOf (d .stage) (d .terminals) x (k .temperature) (k .gmin) (k .method)) 0) (record { row = 0; voltages = voltagesOf x (d .terminals) }) (refusedReading (evalRowOf (d .stage) (d .terminals) x (k .temperature) (k .gmin) (k .method)))
+pub read-by-row : (d : Mosfet1) (x : List Float) (k : Conditions) → readOf d x k ≡ cond (eqb (evalRowOf (d .stage) (d .terminals) x (k .temperature) (k .gmin) (k .method)) 0) (record { row = 0; voltages = voltagesOf x (d .terminals); vt = thermalVoltageOf (k .temperature) }) (refusedReading (evalRowOf (d .stage) (d .terminals) x (k .temperature) (k .gmin) (k .method)))
 unfolding readOf evalRowOf
 read-by-row d x k = by-number (evalRows (d .stage) (d .terminals) x (k .temperature) (k .gmin) (k .method)) refusedReading _ tt
 
@@ -46,23 +47,28 @@ made-refused : (r : DeviceRecord) (k : ConditionsRecord) (n : ℕ) → eqb n 0 �
 unfolding Made outcomeFrom evaluateOf refusedReading refusedReply refusedEvaluation
 made-refused r k n e = rw (e)
 
+-- what is read where no row refuses
+abbrev readAt : Voltages → ConditionsRecord → Reading
+readAt v k = record { row = 0; voltages = v; vt = thermalVoltageOf (record { 0 = k .temperature }) }
+
 -- with the transient flag the charges come on top; without it the device's charges are those of the record
-made-by-flag : (r : DeviceRecord) (v : Voltages) (k : Conditions) (t : Bool) → outcomeFrom r (record { row = 0; voltages = v }) (cond t (Transient (evaluatedChanges (evaluatedOf (deviceFrom r) v false k))) (DirectCurrent (evaluatedChanges (evaluatedOf (deviceFrom r) v false k)))) ≡ evaluatedOutcome r (evaluatedOf (deviceFrom r) v t k)
-unfolding outcomeFrom chargesFrom changedRecord evaluatedChanges evaluatedOutcome evaluatedRecord evaluatedOf evaluatedFromOf evaluatedChargesOf deviceFrom
+made-by-flag : (r : DeviceRecord) (v : Voltages) (k : ConditionsRecord) (t : Bool) → outcomeFrom r (readAt v k) (cond t (Transient (changesAt r (readAt v k) k)) (DirectCurrent (changesAt r (readAt v k) k))) ≡ evaluatedOutcome r (evaluatedOf (deviceFrom r) v t (conditionsFrom k))
+unfolding outcomeFrom chargesFrom changedRecord changesAt evaluatedOutcome evaluatedRecord evaluatedOf evaluatedFromOf evaluatedPointOf evaluatedChargesOf conditionsFrom deviceFrom
 made-by-flag r v k true = refl
 made-by-flag r v k false = refl
 
-made-done : (r : DeviceRecord) (v : Voltages) (k : ConditionsRecord) → Made r k (record { row = 0; voltages = v }) (evaluatedOutcome r (evaluatedOf (deviceFrom r) v (eqb (k .transient) 1) (conditionsFrom k)))
+made-done : (r : DeviceRecord) (v : Voltages) (k : ConditionsRecord) → Made r k (readAt v k) (evaluatedOutcome r (evaluatedOf (deviceFrom r) v (eqb (k .transient) 1) (conditionsFrom k)))
 unfolding Made evaluateOf
-made-done r v k = made-by-flag r v (conditionsFrom k) (eqb (k .transient) 1)
+made-done r v k = made-by-flag r v k (eqb (k .transient) 1)
 
 made-by-row : (r : DeviceRecord) (x : List Float) (k : ConditionsRecord) (v : Voltages) (n : ℕ) (b : Bool) → eqb n 0 ≡ b
-    → Made r k (cond b (record { row = 0; voltages = v }) (refusedReading n)) (evaluationOutcome r (cond b (done (evaluatedOf (deviceFrom r) v (eqb (k .transient) 1) (conditionsFrom k))) (refused n)))
+    → Made r k (cond b (readAt v k) (refusedReading n)) (evaluationOutcome r (cond b (done (evaluatedOf (deviceFrom r) v (eqb (k .transient) 1) (conditionsFrom k))) (refused n)))
 unfolding evaluationOutcome
 made-by-row r x k v n true e = made-done r v k
 made-by-row r x k v n false e = made-refused r k n e
 
 made-read : (r : DeviceRecord) (x : List Float) (k : ConditionsRecord) → Made r k (readOf (deviceFrom r) x (conditionsFrom k)) (evaluationOutcome r (evalOf (deviceFrom r) x (eqb (k .transient) 1) (conditionsFrom k)))
+unfolding conditionsFrom
 made-read r x k =
     let d = deviceFrom r in
     let c = conditionsFrom k in

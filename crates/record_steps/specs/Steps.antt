@@ -7,7 +7,8 @@ use lib.Dec.{eqb, leb}
 use lib.Ieee.{Float}
 use Rattle.exact.specs.Float64.{+0}
 use Rattle.bias.specs.declared.Answer.{Answer}
-use Rattle.mosfet1.specs.Steps.{evaluatedChargesOf, evaluatedOf}
+use Rattle.junction.specs.Junction.{thermalVoltageOf}
+use Rattle.mosfet1.specs.Steps.{evaluatedAnswerOf, pointAt, evaluatedChargesOf}
 use Rattle.mosfet1.specs.declared.steps.Conditions.{Conditions}
 use Rattle.mosfet1.specs.declared.steps.Evaluated.{Evaluated}
 use Rattle.rows.specs.Rows.{voltagesOf, evalRows}
@@ -88,32 +89,34 @@ evalCall r x k =
 unfoldable pub replyOf : EvaluationOutcome → EvaluationReply
 replyOf o = record { refusal = o .refusal; answer = o .answer }
 
--- What an evaluation reads: 100 for an unknown tag, otherwise the row that refuses it; where none does, 0 and the inner nodes' voltages
+-- What an evaluation reads: 100 for an unknown tag, otherwise the row that refuses it; where none does, 0, the inner nodes' voltages and
+-- the thermal voltage
 unfoldable pub refusedReading : ℕ → Reading
-refusedReading n = record { row = n; voltages = record { vd = +0; vg = +0; vs = +0; vb = +0 } }
+refusedReading n = record { row = n; voltages = record { vd = +0; vg = +0; vs = +0; vb = +0 }; vt = +0 }
 
 unfoldable pub readOf : Mosfet1 → List Float → Conditions → Reading
-readOf d x k = unless (evalRows (d .stage) (d .terminals) x (k .temperature) (k .gmin) (k .method)) refusedReading (record { row = 0; voltages = voltagesOf x (d .terminals) })
+readOf d x k = unless (evalRows (d .stage) (d .terminals) x (k .temperature) (k .gmin) (k .method)) refusedReading (record { row = 0; voltages = voltagesOf x (d .terminals); vt = thermalVoltageOf (k .temperature) })
 
 unfoldable pub readingOf : DeviceRecord → List Float → ConditionsRecord → Reading
 readingOf r x k = cond (goodTags r) (cond (goodConditions k) (readOf (deviceFrom r) x (conditionsFrom k)) (refusedReading 100)) (refusedReading 100)
 
 -- what an evaluation gives to be stored, the charges aside: the reply with the parts that it changes
-unfoldable pub evaluatedChanges : Evaluated → EvaluationChanges
-evaluatedChanges e =
+unfoldable pub changesAt : DeviceRecord → Reading → ConditionsRecord → EvaluationChanges
+changesAt r at k =
+    let a = evaluatedAnswerOf (deviceFrom r) (at .voltages) (k .gmin) (eqb (k .limiter) 1) in
     record {
-      reply = record { refusal = 0; answer = e .answer };
-      point = e .device .point;
-      method = methodRecord (e .device .disc);
+      reply = record { refusal = 0; answer = a };
+      point = pointAt (deviceFrom r) (at .voltages) (at .vt) (k .gmin) a;
+      method = methodRecord (methodFrom (k .method));
     }
 
--- from what was read: an evaluation without the transient flag, whose charges come on top with it, or, where it is refused, the reply alone
+-- from what was read: what changes, to which with the transient flag the charges come, or, where it is refused, the reply alone
 unfoldable pub evaluateOf : DeviceRecord → Reading → ConditionsRecord → ChangesOrRefusal
 evaluateOf r at k =
     cond (eqb (at .row) 0)
     (cond (eqb (k .transient) 1)
-    (Transient (evaluatedChanges (evaluatedOf (deviceFrom r) (at .voltages) false (conditionsFrom k))))
-    (DirectCurrent (evaluatedChanges (evaluatedOf (deviceFrom r) (at .voltages) false (conditionsFrom k)))))
+    (Transient (changesAt r at k))
+    (DirectCurrent (changesAt r at k)))
     (Refusal (refusedReply (at .row)))
 
 -- the charges of an evaluation with the transient flag

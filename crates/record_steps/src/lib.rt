@@ -6,17 +6,21 @@ use device::Mosfet1;
 use device::OperatingPoint;
 use model::calls::Commit;
 use mosfet1::steps::Conditions;
-use mosfet1::steps::Evaluated;
 use record::DeviceRecord;
 use record::HistoriesRecord;
 use record::MethodRecord;
+use record::NodeRecord;
+use record::TerminalsRecord;
 use temperature::Kelvin;
+ghost use Prim.Native.Nat.{_≤_, _<_};
 ghost use mathlib.Core.Path.{_≡_};
 ghost use mathlib.Core.Bool.{false};
-ghost use Rattle.mosfet1.specs.Steps.{evaluatedOf};
+ghost use lib.ListN.{length};
+ghost use Rattle.device.specs.Nodes.{anyNodeBeyond};
+ghost use Rattle.rows.specs.Rows.{nodeVoltageOf, voltagesOf};
 ghost use Rattle.model.specs.Calls.{outcomeOfCommit};
-ghost use Rattle.from_record.specs.Devices.{deviceFrom};
-ghost use Rattle.record_steps.specs.Steps.{goodConditions, conditionsFrom, refusedReply, refusedReading, readOf, readingOf, evaluatedChanges, evaluateOf, chargesFrom, commitGiven, commitRecordOf};
+ghost use Rattle.from_record.specs.Devices.{nodeFrom, terminalsFrom};
+ghost use Rattle.record_steps.specs.Steps.{goodConditions, conditionsFrom, refusedReply, refusedReading, readOf, readingOf, changesAt, evaluateOf, chargesFrom, commitGiven, commitRecordOf};
 
 // What an evaluation is handed besides the voltages. The limiter and the transient flag are 0 or 1.
 #[repr(C)]
@@ -36,10 +40,11 @@ pub struct EvaluationReply {
 }
 
 // What an evaluation reads before it works anything out: the row that refuses it, 0 where none does, and then the voltages of the inner
-// nodes.
+// nodes and the thermal voltage. That is a division on which the junctions wait, so it is begun before the rows are asked.
 pub struct Reading {
     pub row: u64,
     pub voltages: Voltages,
+    pub vt: f64,
 }
 
 // The reply of an accepted evaluation, and the parts of the record that it changes with the transient flag and without. The stage of
@@ -123,6 +128,7 @@ fn refused_reading(n: u64) -> Reading
             vs: 0.0,
             vb: 0.0,
         },
+        vt: 0.0,
     }
 }
 
@@ -132,6 +138,7 @@ fn read(d: Mosfet1, x: &[f64], k: Conditions) -> Reading
     let stage = d.stage;
     let method = k.method;
     let n = x.len();
+    let vt = junction::vt(k.temperature);
     let first = step_rows::first_row(stage, d.terminals, n, k.temperature, k.gmin);
     if first != 0 {
         return refused_reading(record::wide(first));
@@ -144,11 +151,75 @@ fn read(d: Mosfet1, x: &[f64], k: Conditions) -> Reading
     Reading {
         row: 0,
         voltages: v,
+        vt,
+    }
+}
+
+// The OR of the six indices: where it is below a number, so is each of them.
+fn indices(t: TerminalsRecord) -> usize
+    ensures { λ r. ⌜ (t .«drain_ext» .index ≤ r) × ((t .«source_ext» .index ≤ r) × ((t .drain .index ≤ r)
+        × ((t .gate .index ≤ r) × ((t .source .index ≤ r) × (t .bulk .index ≤ r))))) ⌝ }
+{
+    t.drain_ext.index
+        | t.source_ext.index
+        | t.drain.index
+        | t.gate.index
+        | t.source.index
+        | t.bulk.index
+}
+
+// What a node is at whose index is inside, ground's too.
+fn node_voltage(x: &[f64], node: NodeRecord) -> f64
+    requires { ⌜ node .index < length (now x) ⌝ }
+    ensures { λ r. ⌜ r ≡ nodeVoltageOf (now (x .entry)) (nodeFrom node) ⌝ }
+{
+    let tag = node.tag;
+    let index = node.index;
+    if tag == 0 {
+        return 0.0;
+    }
+    x[index]
+}
+
+fn voltages_inside(x: &[f64], t: TerminalsRecord) -> Voltages
+    requires { ⌜ (t .drain .index < length (now x)) × ((t .gate .index < length (now x)) × ((t .source .index < length (now x)) × (t .bulk .index < length (now x)))) ⌝ }
+    ensures { λ r. ⌜ r ≡ voltagesOf (now (x .entry)) (terminalsFrom t) ⌝ }
+{
+    let vd = node_voltage(x, t.drain);
+    let vg = node_voltage(x, t.gate);
+    let vs = node_voltage(x, t.source);
+    let vb = node_voltage(x, t.bulk);
+    Voltages { vd, vg, vs, vb }
+}
+
+// The same where every index is inside: row 8 is not asked, and the voltages are read by the record's own fields.
+fn read_inside(d: Mosfet1, t: TerminalsRecord, x: &[f64], k: Conditions) -> Reading
+    requires { ⌜ (d .terminals ≡ terminalsFrom t) × ((anyNodeBeyond (length (now x)) (terminalsFrom t) ≡ false)
+        × ((t .drain .index < length (now x)) × ((t .gate .index < length (now x)) × ((t .source .index < length (now x)) × (t .bulk .index < length (now x)))))) ⌝ }
+    ensures { λ o. ⌜ o ≡ readOf d (now (x .entry)) k ⌝ }
+{
+    let stage = d.stage;
+    let method = k.method;
+    let vt = junction::vt(k.temperature);
+    let first = step_rows::first_row_inside(stage, k.temperature, k.gmin);
+    if first != 0 {
+        return refused_reading(record::wide(first));
+    }
+    let v = voltages_inside(x, t);
+    let last = step_rows::last_row(v, method);
+    if last != 0 {
+        return refused_reading(record::wide(last));
+    }
+    Reading {
+        row: 0,
+        voltages: v,
+        vt,
     }
 }
 
 // An evaluation in three steps, each with a copy of the record of its own: so the compiler reads of the record what a step needs when
-// it needs it, and keeps none of it for later. The first reads the voltages and asks the rows.
+// it needs it, and keeps none of it for later. The first reads the voltages and asks the rows. The usual case, every index inside,
+// ground's too, is told by one test.
 pub fn read_voltages(r: DeviceRecord, x: &[f64], k: ConditionsRecord) -> Reading
     ensures { λ o. ⌜ o ≡ readingOf r (now (x .entry)) k ⌝ }
 {
@@ -159,31 +230,30 @@ pub fn read_voltages(r: DeviceRecord, x: &[f64], k: ConditionsRecord) -> Reading
         return refused_reading(100);
     }
     let d = from_record::device_from(r);
-    read(d, x, conditions_from(k))
+    let conditions = conditions_from(k);
+    let n = x.len();
+    if indices(r.terminals) < n {
+        return read_inside(d, r.terminals, x, conditions);
+    }
+    read(d, x, conditions)
 }
 
-// What changes is the same for every record that stands for the device: none is handed in here.
-fn evaluated_changes(e: Evaluated) -> EvaluationChanges
-    ensures { λ c. ⌜ c ≡ evaluatedChanges e ⌝ }
+// What changes, at what was read.
+fn changes_at(r: DeviceRecord, at: Reading, k: ConditionsRecord) -> EvaluationChanges
+    ensures { λ c. ⌜ c ≡ changesAt r at k ⌝ }
 {
+    let d = from_record::device_from(r);
+    let limiter = k.limiter == 1;
+    let e = mosfet1::steps::answer_and_point(d, at.voltages, at.vt, k.gmin, limiter);
     let answer = e.answer;
-    let d = e.device;
-    let point = d.point;
-    let disc = d.disc;
+    let point = e.point;
+    let method = from_record::method_from(k.method);
     let reply = EvaluationReply { refusal: 0, answer };
     EvaluationChanges {
         reply,
         point,
-        method: record::method_record(disc),
+        method: record::method_record(method),
     }
-}
-
-fn changes_at(r: DeviceRecord, v: Voltages, k: ConditionsRecord) -> EvaluationChanges
-    ensures { λ c. ⌜ c ≡ evaluatedChanges (evaluatedOf (deviceFrom r) v false (conditionsFrom k)) ⌝ }
-{
-    let d = from_record::device_from(r);
-    let conditions = conditions_from(k);
-    evaluated_changes(mosfet1::steps::evaluate(d, v, false, conditions))
 }
 
 // The second step: `eval` of the device that the record stands for, without the charges.
@@ -194,7 +264,7 @@ pub fn evaluate(r: DeviceRecord, at: Reading, k: ConditionsRecord) -> ChangesOrR
     if row != 0 {
         return ChangesOrRefusal::Refusal(refused_reply(row));
     }
-    let changes = changes_at(r, at.voltages, k);
+    let changes = changes_at(r, at, k);
     if k.transient == 1 {
         return ChangesOrRefusal::Transient(changes);
     }

@@ -14,7 +14,7 @@ use Rattle.device.specs.declared.Stage.{Stage}
 use Rattle.device.specs.declared.Discretisation.{Discretisation}
 use Rattle.device.specs.declared.Terminals.{Terminals}
 use Rattle.rows.specs.Rows.{row6Of, nodesOutside, voltagesOutside, row9Of, row11Of, voltagesOf, evalRowOf}
-use Rattle.step_rows.specs.StepRows.{firstRowOf, lastRowOf}
+use Rattle.step_rows.specs.StepRows.{firstRowOf, firstRowInsideOf, lastRowOf}
 
 abbrev first : Bool → Bool → Bool → ℕ
 first six ten eight = cond six 6 (cond ten 10 (cond eight 8 0))
@@ -28,3 +28,8 @@ parts false false false nine eleven = refl
 pub in-two : (stage : Stage) (t : Terminals) (x : List Float) (temperature : Kelvin) (gmin : Float) (disc : Discretisation) → evalRowOf stage t x temperature gmin disc ≡ cond (eqb (firstRowOf stage t (length x) temperature gmin) 0) (lastRowOf (voltagesOf x t) disc) (firstRowOf stage t (length x) temperature gmin)
 unfolding evalRowOf firstRowOf lastRowOf nodesOutside voltagesOutside
 in-two stage t x temperature gmin disc = parts (row6Of temperature gmin) (unbound stage) (anyNodeBeyond (length x) t) (row9Of (voltagesOf x t)) (row11Of disc)
+
+-- where no node is beyond the length, row 8 need not be asked
+pub first-inside : (stage : Stage) (t : Terminals) (n : ℕ) (temperature : Kelvin) (gmin : Float) → anyNodeBeyond n t ≡ false → firstRowOf stage t n temperature gmin ≡ firstRowInsideOf stage temperature gmin
+unfolding firstRowOf firstRowInsideOf
+first-inside stage t n temperature gmin e = rw (e)

@@ -11,7 +11,7 @@ ghost use mathlib.Core.Bool.{_||_};
 ghost use Rattle.device.specs.Nodes.{nodeBeyond, anyNodeBeyond};
 ghost use Rattle.device.specs.Stages.{unbound};
 ghost use Rattle.rows.specs.Rows.{outsideOf, row6Of, row9Of, badStepOf, row11Of, commitRowOf};
-ghost use Rattle.step_rows.specs.StepRows.{firstRowOf, lastRowOf};
+ghost use Rattle.step_rows.specs.StepRows.{firstRowOf, firstRowInsideOf, lastRowOf};
 
 fn either(a: bool, b: bool) -> bool
     ensures { λ r. ⌜ r ≡ (a || b) ⌝ }
@@ -111,6 +111,19 @@ pub fn first_row(stage: Stage, t: Terminals, n: usize, temperature: Kelvin, gmin
     }
     if row8(n, t) {
         return 8;
+    }
+    0
+}
+
+// The same but row 8, for a caller that knows that no node is beyond the lent length.
+pub fn first_row_inside(stage: Stage, temperature: Kelvin, gmin: f64) -> u8
+    ensures { λ r. ⌜ r ≡ firstRowInsideOf stage temperature gmin ⌝ }
+{
+    if row6(temperature, gmin) {
+        return 6;
+    }
+    if unbound(stage) {
+        return 10;
     }
     0
 }

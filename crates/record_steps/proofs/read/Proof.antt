@@ -7,6 +7,9 @@ use borrow.Author.Needs.{needs}
 use Rattle.record_steps.proofs.read.Statement.{statement}
 use Rattle.record_steps.proofs.read.Tie as tie
 
+vt-requires : tie.Need-vt-requires
+vt-requires c κs = search needs
+
 first-row-requires : tie.Need-first-row-requires
 first-row-requires c κs = search needs
 
@@ -37,7 +40,7 @@ returns-2 : tie.Need-returns-2
 returns-2 c = rw (c .refused-reading2 .ensures, c .before .wide2 .ensures, read-by-row _ _ _, in-two _ _ _ _ _ _, ← c .before .before .before .before .before .before .first-row .ensures, eq-eqb _ 0 (c .before .before .before .before .before .if1 .left), ← c .before .before .before .before .voltages .ensures, ← c .before .before .before .last-row .ensures, ne-eqb _ 0 (c .before .before .if2 .taken))
 
 returns-3 : tie.Need-returns-3
-returns-3 c = rw (read-by-row _ _ _, in-two _ _ _ _ _ _, ← c .before .before .before .before .first-row .ensures, eq-eqb _ 0 (c .before .before .before .if1 .left), ← c .before .before .voltages .ensures, ← c .before .last-row .ensures, eq-eqb _ 0 (c .if2 .left))
+returns-3 c = rw (c .before .before .before .before .before .vt .ensures, read-by-row _ _ _, in-two _ _ _ _ _ _, ← c .before .before .before .before .first-row .ensures, eq-eqb _ 0 (c .before .before .before .if1 .left), ← c .before .before .voltages .ensures, ← c .before .last-row .ensures, eq-eqb _ 0 (c .if2 .left))
 
 pub read-spec : {M : Type 1} → statement M
-read-spec = tie.close (tie.spec first-row-requires wide-requires refused-reading-requires returns voltages-requires last-row-requires wide-requires-2 refused-reading-requires-2 returns-2 returns-3)
+read-spec = tie.close (tie.spec vt-requires first-row-requires wide-requires refused-reading-requires returns voltages-requires last-row-requires wide-requires-2 refused-reading-requires-2 returns-2 returns-3)

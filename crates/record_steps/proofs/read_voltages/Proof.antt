@@ -1,6 +1,14 @@
 -- `record_steps::read_voltages` meets its contract.
 -- Assumes nothing.
+use Prim.Native.Nat.{_<_}
+use mathlib.Core.Path.{ap}
+use native.Mathlib.Omega.{arith}
+use lib.ListN.{length}
+use denote.Ref.{now}
 use borrow.Author.Tests.{not-true, not-false}
+use Rattle.device.specs.declared.Mosfet1.{Mosfet1}
+use Rattle.from_record.specs.Devices.{deviceFrom}
+use Rattle.from_record.proofs.Inside.{none-beyond}
 use Rattle.record_steps.specs.Steps.{readingOf}
 use borrow.Author.Needs.{needs}
 use Rattle.record_steps.proofs.read_voltages.Statement.{statement}
@@ -32,21 +40,53 @@ device-from-requires c κs = search needs
 conditions-from-requires : tie.Need-conditions-from-requires
 conditions-from-requires c κs = search needs
 
-read-requires : tie.Need-read-requires
-read-requires c κs = search needs
+indices-requires : tie.Need-indices-requires
+indices-requires c κs = search needs
+
+read-inside-requires : tie.Need-read-inside-requires
+unfolding deviceFrom
+read-inside-requires c κs =
+    let s = c .before .before .before .before .before .before .before .before .before in
+    let t = s .args .r .terminals in
+    let n = length (now (s .args .x)) in
+    let h = c .before .indices .ensures in
+    let below : c .before .indices .result < n = c .if3 .taken in
+    let a : t .«drain_ext» .index < n = omega (arith, h .0, below) in
+    let b : t .«source_ext» .index < n = omega (arith, h .1 .0, below) in
+    let d : t .drain .index < n = omega (arith, h .1 .1 .0, below) in
+    let g : t .gate .index < n = omega (arith, h .1 .1 .1 .0, below) in
+    let e : t .source .index < n = omega (arith, h .1 .1 .1 .1 .0, below) in
+    let f : t .bulk .index < n = omega (arith, h .1 .1 .1 .1 .1, below) in
+    (ap (λ (d : Mosfet1). d .terminals) (c .before .before .before .device-from .ensures), (none-beyond t n a b d g e f, (d, (g, (e, f)))))
 
 returns-3 : tie.Need-returns-3
 unfolding readingOf
 returns-3 c =
     rw (
+      c .read-inside .ensures,
+      c .before .before .before .conditions-from .ensures,
+      c .before .before .before .before .device-from .ensures,
+      ← c .before .before .before .before .before .before .before .before .good-tags-at-once .ensures,
+      not-false (c .before .before .before .before .before .before .before .before .good-tags-at-once .result) (c .before .before .before .before .before .before .before .if1 .left),
+      ← c .before .before .before .before .before .before .good-conditions .ensures,
+      not-false (c .before .before .before .before .before .before .good-conditions .result) (c .before .before .before .before .before .if2 .left),
+    )
+
+read-requires : tie.Need-read-requires
+read-requires c κs = search needs
+
+returns-4 : tie.Need-returns-4
+unfolding readingOf
+returns-4 c =
+    rw (
       c .read .ensures,
-      c .before .conditions-from .ensures,
-      c .before .before .device-from .ensures,
-      ← c .before .before .before .before .before .before .good-tags-at-once .ensures,
-      not-false (c .before .before .before .before .before .before .good-tags-at-once .result) (c .before .before .before .before .before .if1 .left),
-      ← c .before .before .before .before .good-conditions .ensures,
-      not-false (c .before .before .before .before .good-conditions .result) (c .before .before .before .if2 .left),
+      c .before .before .before .conditions-from .ensures,
+      c .before .before .before .before .device-from .ensures,
+      ← c .before .before .before .before .before .before .before .before .good-tags-at-once .ensures,
+      not-false (c .before .before .before .before .before .before .before .before .good-tags-at-once .result) (c .before .before .before .before .before .before .before .if1 .left),
+      ← c .before .before .before .before .before .before .good-conditions .ensures,
+      not-false (c .before .before .before .before .before .before .good-conditions .result) (c .before .before .before .before .before .if2 .left),
     )
 
 pub read-voltages-spec : {M : Type 1} → statement M
-read-voltages-spec = tie.close (tie.spec good-tags-at-once-requires refused-reading-requires returns good-conditions-requires refused-reading-requires-2 returns-2 device-from-requires conditions-from-requires read-requires returns-3)
+read-voltages-spec = tie.close (tie.spec good-tags-at-once-requires refused-reading-requires returns good-conditions-requires refused-reading-requires-2 returns-2 device-from-requires conditions-from-requires indices-requires read-inside-requires returns-3 read-requires returns-4)
