@@ -7,14 +7,17 @@ use lib.Dec.{eqb, leb}
 use lib.Ieee.{Float}
 use Rattle.exact.specs.Float64.{+0}
 use Rattle.bias.specs.declared.Answer.{Answer}
+use Rattle.bias.specs.declared.Voltages.{Voltages}
 use Rattle.junction.specs.Junction.{thermalVoltageOf}
 use Rattle.mosfet1.specs.Steps.{evaluatedAnswerOf, pointAt, evaluatedChargesOf}
 use Rattle.mosfet1.specs.declared.steps.Conditions.{Conditions}
 use Rattle.mosfet1.specs.declared.steps.Evaluated.{Evaluated}
 use Rattle.rows.specs.Rows.{voltagesOf, evalRows}
+use Rattle.step_rows.specs.StepRows.{lastRowOf}
 use Rattle.model.specs.Calls.{evalOf, commitOf}
 use Rattle.device.specs.Refusals.{unless, Outcome, done, refused}
 use Rattle.device.specs.declared.Charges.{Charges}
+use Rattle.device.specs.declared.Discretisation.{Discretisation}
 use Rattle.device.specs.declared.Mosfet1.{Mosfet1}
 use Rattle.record.specs.Records.{historiesRecord, methodRecord, stageTag}
 use Rattle.record.specs.declared.DeviceOutcome.{DeviceOutcome}
@@ -93,6 +96,10 @@ replyOf o = record { refusal = o .refusal; answer = o .answer }
 -- the thermal voltage
 unfoldable pub refusedReading : ℕ → Reading
 refusedReading n = record { row = n; voltages = record { vd = +0; vg = +0; vs = +0; vb = +0 }; vt = +0 }
+
+-- the same from the voltages on
+unfoldable pub readAtOf : Voltages → Float → Discretisation → Reading
+readAtOf v vt method = cond (eqb (lastRowOf v method) 0) (record { row = 0; voltages = v; vt = vt }) (refusedReading (lastRowOf v method))
 
 unfoldable pub readOf : Mosfet1 → List Float → Conditions → Reading
 readOf d x k = unless (evalRows (d .stage) (d .terminals) x (k .temperature) (k .gmin) (k .method)) refusedReading (record { row = 0; voltages = voltagesOf x (d .terminals); vt = thermalVoltageOf (k .temperature) })

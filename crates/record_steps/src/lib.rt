@@ -2,6 +2,7 @@
 use bias::Answer;
 use bias::Voltages;
 use device::Charges;
+use device::Discretisation;
 use device::Mosfet1;
 use device::OperatingPoint;
 use model::calls::Commit;
@@ -20,7 +21,7 @@ ghost use Rattle.device.specs.Nodes.{anyNodeBeyond};
 ghost use Rattle.rows.specs.Rows.{nodeVoltageOf, voltagesOf};
 ghost use Rattle.model.specs.Calls.{outcomeOfCommit};
 ghost use Rattle.from_record.specs.Devices.{nodeFrom, terminalsFrom};
-ghost use Rattle.record_steps.specs.Steps.{goodConditions, conditionsFrom, refusedReply, refusedReading, readOf, readingOf, changesAt, evaluateOf, chargesFrom, commitGiven, commitRecordOf};
+ghost use Rattle.record_steps.specs.Steps.{goodConditions, conditionsFrom, refusedReply, refusedReading, readAtOf, readOf, readingOf, changesAt, evaluateOf, chargesFrom, commitGiven, commitRecordOf};
 
 // What an evaluation is handed besides the voltages. The limiter and the transient flag are 0 or 1.
 #[repr(C)]
@@ -132,6 +133,21 @@ fn refused_reading(n: u64) -> Reading
     }
 }
 
+// What is read once the voltages are known: rows 9 and 11 are about them and the method.
+fn read_at(v: Voltages, vt: f64, method: Discretisation) -> Reading
+    ensures { λ o. ⌜ o ≡ readAtOf v vt method ⌝ }
+{
+    let last = step_rows::last_row(v, method);
+    if last != 0 {
+        return refused_reading(record::wide(last));
+    }
+    Reading {
+        row: 0,
+        voltages: v,
+        vt,
+    }
+}
+
 fn read(d: Mosfet1, x: &[f64], k: Conditions) -> Reading
     ensures { λ o. ⌜ o ≡ readOf d (now (x .entry)) k ⌝ }
 {
@@ -143,16 +159,7 @@ fn read(d: Mosfet1, x: &[f64], k: Conditions) -> Reading
     if first != 0 {
         return refused_reading(record::wide(first));
     }
-    let v = rows::voltages(x, d.terminals);
-    let last = step_rows::last_row(v, method);
-    if last != 0 {
-        return refused_reading(record::wide(last));
-    }
-    Reading {
-        row: 0,
-        voltages: v,
-        vt,
-    }
+    read_at(rows::voltages(x, d.terminals), vt, method)
 }
 
 // The OR of the six indices: where it is below a number, so is each of them.
@@ -205,16 +212,7 @@ fn read_inside(d: Mosfet1, t: TerminalsRecord, x: &[f64], k: Conditions) -> Read
     if first != 0 {
         return refused_reading(record::wide(first));
     }
-    let v = voltages_inside(x, t);
-    let last = step_rows::last_row(v, method);
-    if last != 0 {
-        return refused_reading(record::wide(last));
-    }
-    Reading {
-        row: 0,
-        voltages: v,
-        vt,
-    }
+    read_at(voltages_inside(x, t), vt, method)
 }
 
 // An evaluation in three steps, each with a copy of the record of its own: so the compiler reads of the record what a step needs when

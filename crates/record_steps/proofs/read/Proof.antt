@@ -2,6 +2,7 @@
 -- Assumes nothing.
 use borrow.Author.Tests.{eq-eqb, ne-eqb}
 use Rattle.step_rows.proofs.InTwo.{in-two}
+use Rattle.record_steps.specs.Steps.{readAtOf}
 use Rattle.record_steps.proofs.Changes.{read-by-row}
 use borrow.Author.Needs.{needs}
 use Rattle.record_steps.proofs.read.Statement.{statement}
@@ -27,20 +28,12 @@ returns c =
 voltages-requires : tie.Need-voltages-requires
 voltages-requires c κs = search needs
 
-last-row-requires : tie.Need-last-row-requires
-last-row-requires c κs = search needs
-
-wide-requires-2 : tie.Need-wide-requires-2
-wide-requires-2 c κs = search needs
-
-refused-reading-requires-2 : tie.Need-refused-reading-requires-2
-refused-reading-requires-2 c κs = search needs
+read-at-requires : tie.Need-read-at-requires
+read-at-requires c κs = search needs
 
 returns-2 : tie.Need-returns-2
-returns-2 c = rw (c .refused-reading2 .ensures, c .before .wide2 .ensures, read-by-row _ _ _, in-two _ _ _ _ _ _, ← c .before .before .before .before .before .before .first-row .ensures, eq-eqb _ 0 (c .before .before .before .before .before .if1 .left), ← c .before .before .before .before .voltages .ensures, ← c .before .before .before .last-row .ensures, ne-eqb _ 0 (c .before .before .if2 .taken))
-
-returns-3 : tie.Need-returns-3
-returns-3 c = rw (c .before .before .before .before .before .vt .ensures, read-by-row _ _ _, in-two _ _ _ _ _ _, ← c .before .before .before .before .first-row .ensures, eq-eqb _ 0 (c .before .before .before .if1 .left), ← c .before .before .voltages .ensures, ← c .before .last-row .ensures, eq-eqb _ 0 (c .if2 .left))
+unfolding readAtOf
+returns-2 c = rw (c .read-at .ensures, c .before .voltages .ensures, c .before .before .before .before .vt .ensures, read-by-row _ _ _, in-two _ _ _ _ _ _, ← c .before .before .before .first-row .ensures, eq-eqb _ 0 (c .before .before .if1 .left))
 
 pub read-spec : {M : Type 1} → statement M
-read-spec = tie.close (tie.spec vt-requires first-row-requires wide-requires refused-reading-requires returns voltages-requires last-row-requires wide-requires-2 refused-reading-requires-2 returns-2 returns-3)
+read-spec = tie.close (tie.spec vt-requires first-row-requires wide-requires refused-reading-requires returns voltages-requires read-at-requires returns-2)

@@ -2,6 +2,7 @@
 -- Assumes nothing.
 use borrow.Author.Tests.{eq-eqb, ne-eqb}
 use Rattle.step_rows.proofs.InTwo.{in-two, first-inside}
+use Rattle.record_steps.specs.Steps.{readAtOf}
 use Rattle.record_steps.proofs.Changes.{read-by-row}
 use borrow.Author.Needs.{needs}
 use Rattle.record_steps.proofs.read_inside.Statement.{statement}
@@ -28,24 +29,14 @@ returns c =
 voltages-inside-requires : tie.Need-voltages-inside-requires
 voltages-inside-requires c κs = c .before .before .before .before .pre .1 .1
 
-last-row-requires : tie.Need-last-row-requires
-last-row-requires c κs = search needs
-
-wide-requires-2 : tie.Need-wide-requires-2
-wide-requires-2 c κs = search needs
-
-refused-reading-requires-2 : tie.Need-refused-reading-requires-2
-refused-reading-requires-2 c κs = search needs
+read-at-requires : tie.Need-read-at-requires
+read-at-requires c κs = search needs
 
 returns-2 : tie.Need-returns-2
+unfolding readAtOf
 returns-2 c =
-    let s = c .before .before .before .before .before .before .before .before .before in
-    rw (c .refused-reading2 .ensures, c .before .wide2 .ensures, read-by-row _ _ _, in-two _ _ _ _ _ _, s .pre .0, first-inside _ _ _ _ _ (s .pre .1 .0), ← c .before .before .before .before .before .before .first-row-inside .ensures, eq-eqb _ 0 (c .before .before .before .before .before .if1 .left), ← c .before .before .before .before .voltages-inside .ensures, ← c .before .before .before .last-row .ensures, ne-eqb _ 0 (c .before .before .if2 .taken))
-
-returns-3 : tie.Need-returns-3
-returns-3 c =
-    let s = c .before .before .before .before .before .before .before in
-    rw (c .before .before .before .before .before .vt .ensures, read-by-row _ _ _, in-two _ _ _ _ _ _, s .pre .0, first-inside _ _ _ _ _ (s .pre .1 .0), ← c .before .before .before .before .first-row-inside .ensures, eq-eqb _ 0 (c .before .before .before .if1 .left), ← c .before .before .voltages-inside .ensures, ← c .before .last-row .ensures, eq-eqb _ 0 (c .if2 .left))
+    let s = c .before .before .before .before .before .before in
+    rw (c .read-at .ensures, c .before .voltages-inside .ensures, c .before .before .before .before .vt .ensures, read-by-row _ _ _, in-two _ _ _ _ _ _, s .pre .0, first-inside _ _ _ _ _ (s .pre .1 .0), ← c .before .before .before .first-row-inside .ensures, eq-eqb _ 0 (c .before .before .if1 .left))
 
 pub read-inside-spec : {M : Type 1} → statement M
-read-inside-spec = tie.close (tie.spec vt-requires first-row-inside-requires wide-requires refused-reading-requires returns voltages-inside-requires last-row-requires wide-requires-2 refused-reading-requires-2 returns-2 returns-3)
+read-inside-spec = tie.close (tie.spec vt-requires first-row-inside-requires wide-requires refused-reading-requires returns voltages-inside-requires read-at-requires returns-2)
