@@ -6,3 +6,4 @@ pub mod NoConductance
 pub mod Held
 pub mod Outcomes
 pub mod Parts
+pub mod Known

@@ -238,7 +238,7 @@ fn early_row(
 }
 
 // The row that refuses a load into a right-hand side of so many rows and so many values, 0 where none does.
-fn resolved_row(
+pub fn resolved_row(
     d: Mosfet1,
     kind: LoadKind,
     inside: bool,
@@ -610,7 +610,7 @@ fn charge_branches(d: Mosfet1, alpha: f64) -> ChargeBranches
 }
 
 // `load_jacobian` and `load_residual`; the rows were asked for before.
-fn add_static(d: Mosfet1, cells: &[usize; 37], rhs: &mut [f64], values: &mut [f64])
+pub fn add_static(d: Mosfet1, cells: &[usize; 37], rhs: &mut [f64], values: &mut [f64])
     ensures { λ r. ⌜ (now (values .exit) ≡ addStored (paired (jacPairsOf (terminalsAt (nodesOf (d .terminals)))) (jacValuesOf d)) (numbersFrom (now (cells .entry)) 8 24) (now (values .entry)))
         × (now (rhs .exit) ≡ addSources (offsetSources (terminalsAt (nodesOf (d .terminals))) (residualOf d)) (now (rhs .entry))) ⌝ }
 {
@@ -621,7 +621,7 @@ fn add_static(d: Mosfet1, cells: &[usize; 37], rhs: &mut [f64], values: &mut [f6
 }
 
 // What `load_jacobian_tran` and `load_residual_tran` add to that: the charge branches.
-fn add_charges(d: Mosfet1, alpha: f64, cells: &[usize; 37], rhs: &mut [f64], values: &mut [f64])
+pub fn add_charges(d: Mosfet1, alpha: f64, cells: &[usize; 37], rhs: &mut [f64], values: &mut [f64])
     ensures { λ r. ⌜ (now (values .exit) ≡ addBranchesStored (nodesOf (d .terminals)) (now (cells .entry)) (chargeBranchesOf d alpha) (now (values .entry)))
         × (now (rhs .exit) ≡ addSources (historySources (nodesOf (d .terminals)) (chargeBranchesOf d alpha)) (now (rhs .entry))) ⌝ }
 {
@@ -631,32 +631,7 @@ fn add_charges(d: Mosfet1, alpha: f64, cells: &[usize; 37], rhs: &mut [f64], val
     add_histories(rhs, n, b);
 }
 
-// A load by cells that were looked up before. `inside` says that the caller knows that row 8 does not apply; where it is false, nothing is
-// known, and the nodes are asked. A refused load leaves both slices as they were.
-pub fn load_known(
-    d: Mosfet1,
-    kind: LoadKind,
-    inside: bool,
-    cells: &[usize; 37],
-    rhs: &mut [f64],
-    values: &mut [f64],
-) -> LoadAnswer
-    requires { ⌜ (inside ≡ true → nodesOutside (d .stage) (d .terminals) (length (now rhs)) (getD (now cells) 6 0) ≡ false) ⌝ }
-    ensures { λ r. ⌜ LoadedResolved d kind (now (cells .entry)) (now (rhs .entry)) (now (values .entry)) (outcomeOfLoad r) (now (rhs .exit)) (now (values .exit)) ⌝ }
-{
-    let row = resolved_row(d, kind, inside, cells, rhs.len(), values.len());
-    if row != 0 {
-        return LoadAnswer::Refused(row);
-    }
-    add_static(d, cells, rhs, values);
-    match kind {
-        LoadKind::DirectCurrent => {}
-        LoadKind::Transient(alpha) => add_charges(d, alpha, cells, rhs, values),
-    }
-    LoadAnswer::Done
-}
-
-// The same where nothing is known of the nodes.
+// A load by cells that were looked up before, where nothing is known of the nodes. A refused load leaves both slices as they were.
 pub fn load_resolved(
     d: Mosfet1,
     kind: LoadKind,
@@ -666,5 +641,14 @@ pub fn load_resolved(
 ) -> LoadAnswer
     ensures { λ r. ⌜ LoadedResolved d kind (now (cells .entry)) (now (rhs .entry)) (now (values .entry)) (outcomeOfLoad r) (now (rhs .exit)) (now (values .exit)) ⌝ }
 {
-    load_known(d, kind, false, cells, rhs, values)
+    let row = resolved_row(d, kind, false, cells, rhs.len(), values.len());
+    if row != 0 {
+        return LoadAnswer::Refused(row);
+    }
+    add_static(d, cells, rhs, values);
+    match kind {
+        LoadKind::DirectCurrent => {}
+        LoadKind::Transient(alpha) => add_charges(d, alpha, cells, rhs, values),
+    }
+    LoadAnswer::Done
 }
