@@ -31,10 +31,15 @@ pairs-below n (c ∷ cs) [] e = refl
 pairs-below n (c ∷ cs) (p ∷ ps) e =
     both-true _ _ (or-true (grounded c) (ltb p n) (and-left (ltb p n) (allBelow n ps) e)) (pairs-below n cs ps (and-right (ltb p n) (allBelow n ps) e))
 
-below-front : (n : ℕ) (ps qs : List ℕ) → allBelow n (ps ++ qs) ≡ true → allBelow n ps ≡ true
+pub below-front : (n : ℕ) (ps qs : List ℕ) → allBelow n (ps ++ qs) ≡ true → allBelow n ps ≡ true
 unfolding allBelow
 below-front n [] qs e = refl
 below-front n (p ∷ ps) qs e = both-true _ _ (and-left (ltb p n) (allBelow n (ps ++ qs)) e) (below-front n ps qs (and-right (ltb p n) (allBelow n (ps ++ qs)) e))
+
+pub below-back : (n : ℕ) (ps qs : List ℕ) → allBelow n (ps ++ qs) ≡ true → allBelow n qs ≡ true
+unfolding allBelow
+below-back n [] qs e = e
+below-back n (p ∷ ps) qs e = below-back n ps qs (and-right (ltb p n) (allBelow n (ps ++ qs)) e)
 
 below-at : (n : ℕ) (w : List ℕ) (k m j : ℕ) → allBelow n (numbersFrom w k m) ≡ true → j < m → ltb (getD w (k + j) 0) n ≡ true
 unfolding allBelow numbersFrom

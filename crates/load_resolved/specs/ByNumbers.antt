@@ -29,6 +29,10 @@ pairsStored n [] ps = true
 pairsStored n (c ∷ cs) [] = true
 pairsStored n (c ∷ cs) (p ∷ ps) = (grounded c || ltb p n) && pairsStored n cs ps
 
+-- a conductance's four cells, in the order of the pairs
+unfoldable pub pairStored : ℕ → ℕ → ℕ → ℕ → ℕ → ℕ → ℕ → Bool
+pairStored n a b aa ab ba bb = pairsStored n (pairBetween (nodeAt a) (nodeAt b) []) (aa ∷ ab ∷ ba ∷ bb ∷ [])
+
 -- a conducting branch's four cells
 unfoldable pub branchStored : ℕ → Bool → ℕ → ℕ → ℕ → ℕ → ℕ → ℕ → Bool
 branchStored n conducts a b aa ab bb ba =

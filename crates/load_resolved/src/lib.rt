@@ -15,7 +15,7 @@ use stamps::ChargeBranches;
 ghost use Prim.Native.Nat.{_+_, _<_};
 ghost use mathlib.Core.Path.{_≡_};
 ghost use mathlib.Core.Bool.{true, false, not, _&&_, _||_};
-ghost use mathlib.Core.List.{[]};
+ghost use mathlib.Core.List.{[], _∷_};
 ghost use lib.ListN.{length, getD};
 ghost use lib.Dec.{eqb};
 ghost use lib.Ieee.{neg};
@@ -27,7 +27,7 @@ ghost use Rattle.adding.specs.Adding.{addAt, addAll, addSources, offsetSources}
 ghost use Rattle.assembly.specs.Assembly.{addPlace, paired};
 ghost use Rattle.loading.specs.Loading.{nodesOutside, alphaOutside, earlyRow, outcomeOfLoad};
 ghost use Rattle.load_resolved.specs.LoadResolved.{numbersFrom, storedPlace, addStored, resolvedRowOf, LoadedResolved};
-ghost use Rattle.load_resolved.specs.ByNumbers.{cellThere, pairsStored, branchStored, branchesStored, allBelow, nodesAre, held, isTransient, placeBetween, addChannel, addRow, addPair, addConductance, addBranch, addBranchesStored, historySources};
+ghost use Rattle.load_resolved.specs.ByNumbers.{cellThere, pairsStored, pairStored, branchStored, branchesStored, allBelow, nodesAre, held, isTransient, placeBetween, channelPairs, addChannel, addRow, addPair, addConductance, addBranch, addBranchesStored, historySources};
 
 // The number of ground among the nodes, and of a place that is skipped.
 const SKIPPED: usize = 18446744073709551615;
@@ -294,6 +294,14 @@ fn any_ground(a: usize, b: usize, c: usize, d: usize) -> bool
     either_ground(c, d)
 }
 
+// A value added at a place that is known to be among the values: the rows were asked for before, so it is not tested again.
+fn add_known(xs: &mut [f64], place: usize, x: f64)
+    requires { ⌜ place < length (now xs) ⌝ }
+    ensures { λ r. ⌜ now (xs .exit) ≡ addAt (now (xs .entry)) place x ⌝ }
+{
+    xs[place] = xs[place] + x;
+}
+
 // A value added at a stored place, unless an end of its position is ground.
 fn add_cell(xs: &mut [f64], row: usize, column: usize, place: usize, x: f64)
     ensures { λ r. ⌜ now (xs .exit) ≡ addPlace (storedPlace (position (nodeAt row) (nodeAt column)) place) x (now (xs .entry)) ⌝ }
@@ -336,16 +344,17 @@ fn add_channel_by_cell(xs: &mut [f64], n: Nodes, cells: &[usize; 37], p: Operati
 
 // The same where none is: every place counts.
 fn row_plain(xs: &mut [f64], cells: &[usize; 37], k: usize, g: f64, d: f64, s: f64, b: f64)
-    requires { ⌜ k + 3 < 37 ⌝ }
+    requires { ⌜ (k + 3 < 37) × (allBelow (length (now xs)) (getD (now cells) k 0 ∷ getD (now cells) (k + 1) 0 ∷ getD (now cells) (k + 2) 0 ∷ getD (now cells) (k + 3) 0 ∷ []) ≡ true) ⌝ }
     ensures { λ r. ⌜ now (xs .exit) ≡ addAt (addAt (addAt (addAt (now (xs .entry)) (getD (now (cells .entry)) k 0) g) (getD (now (cells .entry)) (k + 1) 0) d) (getD (now (cells .entry)) (k + 2) 0) s) (getD (now (cells .entry)) (k + 3) 0) b ⌝ }
 {
-    adding::add_at(xs, cells[k], g);
-    adding::add_at(xs, cells[k + 1], d);
-    adding::add_at(xs, cells[k + 2], s);
-    adding::add_at(xs, cells[k + 3], b);
+    add_known(xs, cells[k], g);
+    add_known(xs, cells[k + 1], d);
+    add_known(xs, cells[k + 2], s);
+    add_known(xs, cells[k + 3], b);
 }
 
 fn add_channel_plain(xs: &mut [f64], cells: &[usize; 37], p: OperatingPoint)
+    requires { ⌜ allBelow (length (now xs)) (numbersFrom (now cells) 8 8) ≡ true ⌝ }
     ensures { λ r. ⌜ now (xs .exit) ≡ addAll (now (xs .entry)) (numbersFrom (now (cells .entry)) 8 8) (channelValues p []) ⌝ }
 {
     let gm = p.gm;
@@ -358,6 +367,7 @@ fn add_channel_plain(xs: &mut [f64], cells: &[usize; 37], p: OperatingPoint)
 
 // The channel's eight values. Ground is asked for once for all of them, not at each.
 fn add_channel(xs: &mut [f64], n: Nodes, cells: &[usize; 37], p: OperatingPoint)
+    requires { ⌜ pairsStored (length (now xs)) (channelPairs n) (numbersFrom (now cells) 8 8) ≡ true ⌝ }
     ensures { λ r. ⌜ now (xs .exit) ≡ addChannel n (now (cells .entry)) p (now (xs .entry)) ⌝ }
 {
     if any_ground(n.drain, n.gate, n.source, n.bulk) {
@@ -369,6 +379,7 @@ fn add_channel(xs: &mut [f64], n: Nodes, cells: &[usize; 37], p: OperatingPoint)
 
 // A conductance between the nodes a and b, in the order of `jac_pairs`. Ground is asked for once.
 fn add_pair(xs: &mut [f64], a: usize, b: usize, g: f64, aa: usize, ab: usize, ba: usize, bb: usize)
+    requires { ⌜ pairStored (length (now xs)) a b aa ab ba bb ≡ true ⌝ }
     ensures { λ r. ⌜ now (xs .exit) ≡ addPair a b g aa ab ba bb (now (xs .entry)) ⌝ }
 {
     if either_ground(a, b) {
@@ -377,10 +388,10 @@ fn add_pair(xs: &mut [f64], a: usize, b: usize, g: f64, aa: usize, ab: usize, ba
         add_cell(xs, b, a, ba, -g);
         add_cell(xs, b, b, bb, g);
     } else {
-        adding::add_at(xs, aa, g);
-        adding::add_at(xs, ab, -g);
-        adding::add_at(xs, ba, -g);
-        adding::add_at(xs, bb, g);
+        add_known(xs, aa, g);
+        add_known(xs, ab, -g);
+        add_known(xs, ba, -g);
+        add_known(xs, bb, g);
     }
 }
 
@@ -447,6 +458,7 @@ fn add_series(
     ba: usize,
     bb: usize,
 )
+    requires { ⌜ pairStored (length (now xs)) a b aa ab ba bb ≡ true ⌝ }
     ensures { λ o. ⌜ now (xs .exit) ≡ addPair a b (seriesOf r) aa ab ba bb (now (xs .entry)) ⌝ }
 {
     if r > 0.0 {
@@ -458,7 +470,7 @@ fn add_series(
 
 // A conductance at the four places from k on. Reading them here keeps the caller short.
 fn pair_at(xs: &mut [f64], a: usize, b: usize, g: f64, cells: &[usize; 37], k: usize)
-    requires { ⌜ k + 3 < 37 ⌝ }
+    requires { ⌜ (k + 3 < 37) × (pairStored (length (now xs)) a b (getD (now cells) k 0) (getD (now cells) (k + 1) 0) (getD (now cells) (k + 2) 0) (getD (now cells) (k + 3) 0) ≡ true) ⌝ }
     ensures { λ r. ⌜ now (xs .exit) ≡ addPair a b g (getD (now (cells .entry)) k 0) (getD (now (cells .entry)) (k + 1) 0) (getD (now (cells .entry)) (k + 2) 0) (getD (now (cells .entry)) (k + 3) 0) (now (xs .entry)) ⌝ }
 {
     add_pair(
@@ -474,7 +486,7 @@ fn pair_at(xs: &mut [f64], a: usize, b: usize, g: f64, cells: &[usize; 37], k: u
 }
 
 fn series_at(xs: &mut [f64], a: usize, b: usize, r: f64, cells: &[usize; 37], k: usize)
-    requires { ⌜ k + 3 < 37 ⌝ }
+    requires { ⌜ (k + 3 < 37) × (pairStored (length (now xs)) a b (getD (now cells) k 0) (getD (now cells) (k + 1) 0) (getD (now cells) (k + 2) 0) (getD (now cells) (k + 3) 0) ≡ true) ⌝ }
     ensures { λ o. ⌜ now (xs .exit) ≡ addPair a b (seriesOf r) (getD (now (cells .entry)) k 0) (getD (now (cells .entry)) (k + 1) 0) (getD (now (cells .entry)) (k + 2) 0) (getD (now (cells .entry)) (k + 3) 0) (now (xs .entry)) ⌝ }
 {
     add_series(
@@ -491,6 +503,7 @@ fn series_at(xs: &mut [f64], a: usize, b: usize, r: f64, cells: &[usize; 37], k:
 
 // `load_jacobian`: the channel, the series resistances, the junctions.
 fn add_jacobian(xs: &mut [f64], n: Nodes, cells: &[usize; 37], d: Mosfet1)
+    requires { ⌜ pairsStored (length (now xs)) (jacPairsOf (terminalsAt n)) (numbersFrom (now cells) 8 24) ≡ true ⌝ }
     ensures { λ r. ⌜ now (xs .exit) ≡ addStored (paired (jacPairsOf (terminalsAt n)) (jacValuesOf d)) (numbersFrom (now (cells .entry)) 8 24) (now (xs .entry)) ⌝ }
 {
     let rd = d.geometry.rd;
@@ -611,6 +624,7 @@ fn charge_branches(d: Mosfet1, alpha: f64) -> ChargeBranches
 
 // `load_jacobian` and `load_residual`; the rows were asked for before.
 pub fn add_static(d: Mosfet1, cells: &[usize; 37], rhs: &mut [f64], values: &mut [f64])
+    requires { ⌜ pairsStored (length (now values)) (jacPairsOf (terminalsAt (nodesOf (d .terminals)))) (numbersFrom (now cells) 8 24) ≡ true ⌝ }
     ensures { λ r. ⌜ (now (values .exit) ≡ addStored (paired (jacPairsOf (terminalsAt (nodesOf (d .terminals)))) (jacValuesOf d)) (numbersFrom (now (cells .entry)) 8 24) (now (values .entry)))
         × (now (rhs .exit) ≡ addSources (offsetSources (terminalsAt (nodesOf (d .terminals))) (residualOf d)) (now (rhs .entry))) ⌝ }
 {

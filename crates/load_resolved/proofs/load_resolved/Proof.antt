@@ -15,6 +15,7 @@ use Rattle.loading.specs.declared.LoadKind.{LoadKind}
 use Rattle.load_resolved.specs.LoadResolved.{addStored, storedPlaces}
 use Rattle.load_resolved.specs.ByNumbers.{addBranchesStored, historySources}
 use Rattle.load_resolved.proofs.Parts.{refused-row, accepted-row, nodes-back, static-matrix, static-side, transient-matrix, transient-side}
+use Rattle.load_resolved.proofs.Known.{pairs-held}
 use borrow.Author.Needs.{needs}
 use Rattle.load_resolved.proofs.load_resolved.Statement.{statement}
 use Rattle.load_resolved.proofs.load_resolved.Tie as tie
@@ -35,7 +36,10 @@ returns c =
     refused-row (s .args .d) (s .args .kind) (now (s .args .cells)) (now (s .args .rhs)) (now (s .args .values)) (c .before .resolved-row .result) (c .before .resolved-row .ensures) (c .if1 .taken)
 
 add-static-requires : tie.Need-add-static-requires
-add-static-requires c κs = search needs
+add-static-requires c κs =
+    let r = c .before .before .before in
+    let s = start r in
+    pairs-held (s .args .d) (s .args .kind) (now (s .args .cells)) _ _ (room s) (sym (r .resolved-row .ensures) ∙ c .before .before .if1 .left)
 
 enum-told : tie.Need-enum-told
 enum-told c = search needs
