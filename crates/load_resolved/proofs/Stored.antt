@@ -76,7 +76,7 @@ length-stored [] ps xs = refl
 length-stored (c ∷ cs) [] xs = refl
 length-stored (c ∷ cs) (p ∷ ps) xs = length-stored cs ps _ ∙ length-place (storedPlace (c .position) p) (c .value) xs
 
-length-branch : (br : ChargeBranch) (a b aa ab bb ba : ℕ) (xs : List Float) → length (addBranch br a b aa ab bb ba xs) ≡ length xs
+pub length-branch : (br : ChargeBranch) (a b aa ab bb ba : ℕ) (xs : List Float) → length (addBranch br a b aa ab bb ba xs) ≡ length xs
 unfolding addBranch
 length-branch br a b aa ab bb ba xs = length-stored _ _ xs
 

@@ -10,14 +10,16 @@ use lib.Dec.{eqb, ltb}
 use lib.Ieee.{Float}
 use borrow.Author.Tests.{ltb-true}
 use Rattle.pattern.proofs.Rows.{and-left, and-right}
-use Rattle.stamps.specs.Stamps.{jacPairsOf, pairBetween}
+use Rattle.device.specs.declared.Mosfet1.{Mosfet1}
+use Rattle.stamps.specs.Stamps.{jacPairsOf, pairBetween, branchOf, junctionBranchOf, chargeBranchesOf}
 use Rattle.stamps.specs.declared.Position.{Position}
+use Rattle.stamps.specs.declared.ChargeBranches.{ChargeBranches}
 use Rattle.places.specs.Places.{skippedNumber, nodeAt, terminalsAt}
 use Rattle.places.specs.declared.Nodes.{Nodes}
 use Rattle.adding.specs.Adding.{addAt}
 use Rattle.adding.proofs.Adding.{length-add}
 use Rattle.load_resolved.specs.LoadResolved.{numbersFrom, grounded}
-use Rattle.load_resolved.specs.ByNumbers.{cellThere, pairsStored, pairStored, branchStored, allBelow, channelPairs}
+use Rattle.load_resolved.specs.ByNumbers.{cellThere, pairsStored, pairStored, branchStored, branchesStored, conductingStored, allBelow, channelPairs}
 use Rattle.load_resolved.proofs.Below.{below-front, below-back}
 use Rattle.load_resolved.proofs.Stored.{or-left, or-right}
 
@@ -137,3 +139,51 @@ module _ (n : ℕ) (t : Nodes) (w : List ℕ) (h : pairsStored n (jacPairsOf (te
   pub bd-there : pairStored n (t .bulk) (t .drain) (getD w 28 0) (getD w 29 0) (getD w 30 0) (getD w 31 0) ≡ true
   unfolding pairStored numbersFrom
   bd-there = from-bs .1
+
+-- the five branches, one by one
+module _ (n : ℕ) (t : Nodes) (w : List ℕ) (br : ChargeBranches) (h : conductingStored n t w br ≡ true) where
+  abbrev gs : Bool
+  gs = branchStored n (br .gs .conducts) (t .gate) (t .source) (getD w 32 0) (getD w 33 0) (getD w 14 0) (getD w 12 0)
+
+  abbrev gd : Bool
+  gd = branchStored n (br .gd .conducts) (t .gate) (t .drain) (getD w 32 0) (getD w 34 0) (getD w 9 0) (getD w 8 0)
+
+  abbrev gb : Bool
+  gb = branchStored n (br .gb .conducts) (t .gate) (t .bulk) (getD w 32 0) (getD w 35 0) (getD w 24 0) (getD w 36 0)
+
+  abbrev bs : Bool
+  bs = branchStored n (br .bs .conducts) (t .bulk) (t .source) (getD w 24 0) (getD w 25 0) (getD w 14 0) (getD w 15 0)
+
+  abbrev bd : Bool
+  bd = branchStored n (br .bd .conducts) (t .bulk) (t .drain) (getD w 24 0) (getD w 29 0) (getD w 9 0) (getD w 11 0)
+
+  up-to-bs : (gs && gd && gb && bs) ≡ true
+  unfolding conductingStored
+  up-to-bs = and-left (gs && gd && gb && bs) bd h
+
+  up-to-gb : (gs && gd && gb) ≡ true
+  up-to-gb = and-left (gs && gd && gb) bs up-to-bs
+
+  up-to-gd : (gs && gd) ≡ true
+  up-to-gd = and-left (gs && gd) gb up-to-gb
+
+  pub gs-conducts : gs ≡ true
+  gs-conducts = and-left gs gd up-to-gd
+
+  pub gd-conducts : gd ≡ true
+  gd-conducts = and-right gs gd up-to-gd
+
+  pub gb-conducts : gb ≡ true
+  gb-conducts = and-right (gs && gd) gb up-to-gb
+
+  pub bs-conducts : bs ≡ true
+  bs-conducts = and-right (gs && gd && gb) bs up-to-bs
+
+  pub bd-conducts : bd ≡ true
+  unfolding conductingStored
+  bd-conducts = and-right (gs && gd && gb && bs) bd h
+
+-- a branch conducts where its capacitance is not zero
+pub conducting-is : (n : ℕ) (t : Nodes) (w : List ℕ) (d : Mosfet1) (alpha : Float) → conductingStored n t w (chargeBranchesOf d alpha) ≡ branchesStored n t w (d .charges)
+unfolding conductingStored branchesStored chargeBranchesOf branchOf junctionBranchOf
+conducting-is n t w d alpha = refl

@@ -47,6 +47,15 @@ branchesStored n t w q =
     && branchStored n (q .«cbs_eval» ≠f +0) (t .bulk) (t .source) (getD w 24 0) (getD w 25 0) (getD w 14 0) (getD w 15 0)
     && branchStored n (q .«cbd_eval» ≠f +0) (t .bulk) (t .drain) (getD w 24 0) (getD w 29 0) (getD w 9 0) (getD w 11 0)
 
+-- the same of branches that were made: each says itself whether it conducts
+unfoldable pub conductingStored : ℕ → Nodes → List ℕ → ChargeBranches → Bool
+conductingStored n t w br =
+    branchStored n (br .gs .conducts) (t .gate) (t .source) (getD w 32 0) (getD w 33 0) (getD w 14 0) (getD w 12 0)
+    && branchStored n (br .gd .conducts) (t .gate) (t .drain) (getD w 32 0) (getD w 34 0) (getD w 9 0) (getD w 8 0)
+    && branchStored n (br .gb .conducts) (t .gate) (t .bulk) (getD w 32 0) (getD w 35 0) (getD w 24 0) (getD w 36 0)
+    && branchStored n (br .bs .conducts) (t .bulk) (t .source) (getD w 24 0) (getD w 25 0) (getD w 14 0) (getD w 15 0)
+    && branchStored n (br .bd .conducts) (t .bulk) (t .drain) (getD w 24 0) (getD w 29 0) (getD w 9 0) (getD w 11 0)
+
 -- each of the places is among n values
 unfoldable pub allBelow : ℕ → List ℕ → Bool
 allBelow n [] = true

@@ -27,7 +27,7 @@ ghost use Rattle.adding.specs.Adding.{addAt, addAll, addSources, offsetSources}
 ghost use Rattle.assembly.specs.Assembly.{addPlace, paired};
 ghost use Rattle.loading.specs.Loading.{nodesOutside, alphaOutside, earlyRow, outcomeOfLoad};
 ghost use Rattle.load_resolved.specs.LoadResolved.{numbersFrom, storedPlace, addStored, resolvedRowOf, LoadedResolved};
-ghost use Rattle.load_resolved.specs.ByNumbers.{cellThere, pairsStored, pairStored, branchStored, branchesStored, allBelow, nodesAre, held, isTransient, placeBetween, channelPairs, addChannel, addRow, addPair, addConductance, addBranch, addBranchesStored, historySources};
+ghost use Rattle.load_resolved.specs.ByNumbers.{cellThere, pairsStored, pairStored, branchStored, branchesStored, conductingStored, allBelow, nodesAre, held, isTransient, placeBetween, channelPairs, addChannel, addRow, addPair, addConductance, addBranch, addBranchesStored, historySources};
 
 // The number of ground among the nodes, and of a place that is skipped.
 const SKIPPED: usize = 18446744073709551615;
@@ -524,6 +524,7 @@ fn add_jacobian(xs: &mut [f64], n: Nodes, cells: &[usize; 37], d: Mosfet1)
 
 // A conductance at its four cells, in the order of `stamp_g_pair`. Ground is asked for once.
 fn add_four(xs: &mut [f64], a: usize, b: usize, g: f64, aa: usize, ab: usize, bb: usize, ba: usize)
+    requires { ⌜ branchStored (length (now xs)) true a b aa ab bb ba ≡ true ⌝ }
     ensures { λ r. ⌜ now (xs .exit) ≡ addConductance a b g aa ab bb ba (now (xs .entry)) ⌝ }
 {
     if either_ground(a, b) {
@@ -532,10 +533,10 @@ fn add_four(xs: &mut [f64], a: usize, b: usize, g: f64, aa: usize, ab: usize, bb
         add_cell(xs, b, b, bb, g);
         add_cell(xs, b, a, ba, -g);
     } else {
-        adding::add_at(xs, aa, g);
-        adding::add_at(xs, ab, -g);
-        adding::add_at(xs, bb, g);
-        adding::add_at(xs, ba, -g);
+        add_known(xs, aa, g);
+        add_known(xs, ab, -g);
+        add_known(xs, bb, g);
+        add_known(xs, ba, -g);
     }
 }
 
@@ -550,6 +551,7 @@ fn add_branch(
     bb: usize,
     ba: usize,
 )
+    requires { ⌜ branchStored (length (now xs)) (br .conducts) a b aa ab bb ba ≡ true ⌝ }
     ensures { λ r. ⌜ now (xs .exit) ≡ addBranch br a b aa ab bb ba (now (xs .entry)) ⌝ }
 {
     let g = br.conductance;
@@ -570,13 +572,15 @@ fn branch_at(
     bb: usize,
     ba: usize,
 )
-    requires { ⌜ (aa < 37) × ((ab < 37) × ((bb < 37) × (ba < 37))) ⌝ }
+    requires { ⌜ (aa < 37) × ((ab < 37) × ((bb < 37) × ((ba < 37)
+        × (branchStored (length (now xs)) (br .conducts) a b (getD (now cells) aa 0) (getD (now cells) ab 0) (getD (now cells) bb 0) (getD (now cells) ba 0) ≡ true)))) ⌝ }
     ensures { λ r. ⌜ now (xs .exit) ≡ addBranch br a b (getD (now (cells .entry)) aa 0) (getD (now (cells .entry)) ab 0) (getD (now (cells .entry)) bb 0) (getD (now (cells .entry)) ba 0) (now (xs .entry)) ⌝ }
 {
     add_branch(xs, br, a, b, cells[aa], cells[ab], cells[bb], cells[ba]);
 }
 
 fn add_branches(xs: &mut [f64], n: Nodes, cells: &[usize; 37], b: ChargeBranches)
+    requires { ⌜ conductingStored (length (now xs)) n (now cells) b ≡ true ⌝ }
     ensures { λ r. ⌜ now (xs .exit) ≡ addBranchesStored n (now (cells .entry)) b (now (xs .entry)) ⌝ }
 {
     let gate = n.gate;
@@ -636,6 +640,7 @@ pub fn add_static(d: Mosfet1, cells: &[usize; 37], rhs: &mut [f64], values: &mut
 
 // What `load_jacobian_tran` and `load_residual_tran` add to that: the charge branches.
 pub fn add_charges(d: Mosfet1, alpha: f64, cells: &[usize; 37], rhs: &mut [f64], values: &mut [f64])
+    requires { ⌜ branchesStored (length (now values)) (nodesOf (d .terminals)) (now cells) (d .charges) ≡ true ⌝ }
     ensures { λ r. ⌜ (now (values .exit) ≡ addBranchesStored (nodesOf (d .terminals)) (now (cells .entry)) (chargeBranchesOf d alpha) (now (values .entry)))
         × (now (rhs .exit) ≡ addSources (historySources (nodesOf (d .terminals)) (chargeBranchesOf d alpha)) (now (rhs .entry))) ⌝ }
 {

@@ -1,8 +1,8 @@
 -- `load_resolved::load_resolved`: the rows, then the parts.
-use mathlib.Core.Path.{sym, ap, _∙_}
-use mathlib.Core.Bool.{false≢true}
+use mathlib.Core.Path.{_≡_, sym, ap, _∙_, subst}
+use mathlib.Core.Bool.{true, false≢true}
 use mathlib.Core.List.{List}
-use Prim.Native.Nat.{_≤_}
+use Prim.Native.Nat.{ℕ, _≤_}
 use native.Mathlib.Omega.{arith}
 use lib.ListN.{length}
 use lib.Ieee.{Float}
@@ -12,10 +12,11 @@ use Rattle.places.specs.Places.{skippedNumber, nodesOf}
 use Rattle.adding.specs.Adding.{addSources}
 use Rattle.loading.specs.Loading.{branchesOf, jacobianContributions, rhsContributions}
 use Rattle.loading.specs.declared.LoadKind.{LoadKind}
-use Rattle.load_resolved.specs.LoadResolved.{addStored, storedPlaces}
-use Rattle.load_resolved.specs.ByNumbers.{addBranchesStored, historySources}
+use Rattle.load_resolved.specs.LoadResolved.{addStored, storedPlaces, resolvedRowOf}
+use Rattle.load_resolved.specs.ByNumbers.{branchesStored, addBranchesStored, historySources}
+use Rattle.load_resolved.proofs.Stored.{length-stored}
 use Rattle.load_resolved.proofs.Parts.{refused-row, accepted-row, nodes-back, static-matrix, static-side, transient-matrix, transient-side}
-use Rattle.load_resolved.proofs.Known.{pairs-held}
+use Rattle.load_resolved.proofs.Known.{pairs-held, branches-held}
 use borrow.Author.Needs.{needs}
 use Rattle.load_resolved.proofs.load_resolved.Statement.{statement}
 use Rattle.load_resolved.proofs.load_resolved.Tie as tie
@@ -48,7 +49,15 @@ enum-known-kind : tie.Need-enum-known-kind
 enum-known-kind c = search needs
 
 add-charges-requires : tie.Need-add-charges-requires
-add-charges-requires c κs = search needs
+add-charges-requires c κs =
+    let r = c .before .before .before .before .before .before .before .before .before .before .before .before .before in
+    let s = start r in
+    let d = s .args .d in
+    let w = now (s .args .cells) in
+    let zero = sym (r .resolved-row .ensures) ∙ c .before .before .before .before .before .before .before .before .before .before .before .before .if1 .left in
+    let same = ap length (c .before .before .before .before .before .before .before .before .before .add-static .ensures .0) ∙ length-stored _ _ _ in
+    subst (λ (n : ℕ). branchesStored n (nodesOf (d .terminals)) w (d .charges) ≡ true) (sym same)
+    (branches-held d _ w _ _ (room s) (subst (λ (k : LoadKind). resolvedRowOf d k w (length (now (s .args .rhs))) (length (now (s .args .values))) ≡ 0) (c .before .before .before .kind .given .1) zero))
 
 same-length : tie.Need-same-length
 same-length c = search needs
