@@ -167,21 +167,21 @@ module _ (n : ℕ) (t : Nodes) (w : List ℕ) (br : ChargeBranches) (h : conduct
   up-to-gd : (gs && gd) ≡ true
   up-to-gd = and-left (gs && gd) gb up-to-gb
 
-  pub gs-conducts : gs ≡ true
-  gs-conducts = and-left gs gd up-to-gd
+  pub gs-stored : gs ≡ true
+  gs-stored = and-left gs gd up-to-gd
 
-  pub gd-conducts : gd ≡ true
-  gd-conducts = and-right gs gd up-to-gd
+  pub gd-stored : gd ≡ true
+  gd-stored = and-right gs gd up-to-gd
 
-  pub gb-conducts : gb ≡ true
-  gb-conducts = and-right (gs && gd) gb up-to-gb
+  pub gb-stored : gb ≡ true
+  gb-stored = and-right (gs && gd) gb up-to-gb
 
-  pub bs-conducts : bs ≡ true
-  bs-conducts = and-right (gs && gd && gb) bs up-to-bs
+  pub bs-stored : bs ≡ true
+  bs-stored = and-right (gs && gd && gb) bs up-to-bs
 
-  pub bd-conducts : bd ≡ true
+  pub bd-stored : bd ≡ true
   unfolding conductingStored
-  bd-conducts = and-right (gs && gd && gb && bs) bd h
+  bd-stored = and-right (gs && gd && gb && bs) bd h
 
 -- a branch conducts where its capacitance is not zero
 pub conducting-is : (n : ℕ) (t : Nodes) (w : List ℕ) (d : Mosfet1) (alpha : Float) → conductingStored n t w (chargeBranchesOf d alpha) ≡ branchesStored n t w (d .charges)

@@ -237,7 +237,8 @@ fn early_row(
     0
 }
 
-// The row that refuses a load into a right-hand side of so many rows and so many values, 0 where none does.
+// The row that refuses a load into a right-hand side of so many rows and so many values, 0 where none does. `inside` says that the
+// caller knows that row 8 does not apply; where it is false, nothing is known, and the nodes are asked.
 pub fn resolved_row(
     d: Mosfet1,
     kind: LoadKind,
@@ -294,7 +295,7 @@ fn any_ground(a: usize, b: usize, c: usize, d: usize) -> bool
     either_ground(c, d)
 }
 
-// A value added at a place that is known to be among the values: the rows were asked for before, so it is not tested again.
+// A value added at a place that is known to be among the values: the rows were asked for before the first write.
 fn add_known(xs: &mut [f64], place: usize, x: f64)
     requires { ⌜ place < length (now xs) ⌝ }
     ensures { λ r. ⌜ now (xs .exit) ≡ addAt (now (xs .entry)) place x ⌝ }
@@ -342,7 +343,7 @@ fn add_channel_by_cell(xs: &mut [f64], n: Nodes, cells: &[usize; 37], p: Operati
     row_by_cell(xs, n.source, n, cells, 12, -gm, -gds, gms, -gmbs);
 }
 
-// The same where none is: every place counts.
+// The same where none is: every place counts, and is known to be there.
 fn row_plain(xs: &mut [f64], cells: &[usize; 37], k: usize, g: f64, d: f64, s: f64, b: f64)
     requires { ⌜ (k + 3 < 37) × (allBelow (length (now xs)) (getD (now cells) k 0 ∷ getD (now cells) (k + 1) 0 ∷ getD (now cells) (k + 2) 0 ∷ getD (now cells) (k + 3) 0 ∷ []) ≡ true) ⌝ }
     ensures { λ r. ⌜ now (xs .exit) ≡ addAt (addAt (addAt (addAt (now (xs .entry)) (getD (now (cells .entry)) k 0) g) (getD (now (cells .entry)) (k + 1) 0) d) (getD (now (cells .entry)) (k + 2) 0) s) (getD (now (cells .entry)) (k + 3) 0) b ⌝ }
@@ -377,7 +378,7 @@ fn add_channel(xs: &mut [f64], n: Nodes, cells: &[usize; 37], p: OperatingPoint)
     }
 }
 
-// A conductance between the nodes a and b, in the order of `jac_pairs`. Ground is asked for once.
+// A conductance between the nodes a and b, in the order of `jac_pairs`. Ground is asked for once; where there is none, the places are known to be there.
 fn add_pair(xs: &mut [f64], a: usize, b: usize, g: f64, aa: usize, ab: usize, ba: usize, bb: usize)
     requires { ⌜ pairStored (length (now xs)) a b aa ab ba bb ≡ true ⌝ }
     ensures { λ r. ⌜ now (xs .exit) ≡ addPair a b g aa ab ba bb (now (xs .entry)) ⌝ }
@@ -522,7 +523,7 @@ fn add_jacobian(xs: &mut [f64], n: Nodes, cells: &[usize; 37], d: Mosfet1)
     pair_at(xs, bulk, drain, gbd, cells, 28);
 }
 
-// A conductance at its four cells, in the order of `stamp_g_pair`. Ground is asked for once.
+// A conductance at its four cells, in the order of `stamp_g_pair`. Ground is asked for once, as in `add_pair`.
 fn add_four(xs: &mut [f64], a: usize, b: usize, g: f64, aa: usize, ab: usize, bb: usize, ba: usize)
     requires { ⌜ branchStored (length (now xs)) true a b aa ab bb ba ≡ true ⌝ }
     ensures { λ r. ⌜ now (xs .exit) ≡ addConductance a b g aa ab bb ba (now (xs .entry)) ⌝ }
@@ -626,7 +627,7 @@ fn charge_branches(d: Mosfet1, alpha: f64) -> ChargeBranches
     }
 }
 
-// `load_jacobian` and `load_residual`; the rows were asked for before.
+// `load_jacobian` and `load_residual`. The rows were asked for before, so every place that counts is there.
 pub fn add_static(d: Mosfet1, cells: &[usize; 37], rhs: &mut [f64], values: &mut [f64])
     requires { ⌜ pairsStored (length (now values)) (jacPairsOf (terminalsAt (nodesOf (d .terminals)))) (numbersFrom (now cells) 8 24) ≡ true ⌝ }
     ensures { λ r. ⌜ (now (values .exit) ≡ addStored (paired (jacPairsOf (terminalsAt (nodesOf (d .terminals)))) (jacValuesOf d)) (numbersFrom (now (cells .entry)) 8 24) (now (values .entry)))

@@ -11,7 +11,6 @@ use Rattle.load_resolved.specs.LoadResolved.{numbersFrom}
 use Rattle.load_resolved.specs.ByNumbers.{pairsStored}
 use Rattle.load_resolved.proofs.Stored.{length-stored, length-channel, length-pair, jacobian-parts}
 use Rattle.load_resolved.proofs.There.{channel-there, rd-there, rs-there, bs-there, bd-there}
-use borrow.Author.Needs.{needs}
 use Rattle.load_resolved.proofs.add_jacobian.Statement.{statement}
 use Rattle.load_resolved.proofs.add_jacobian.Tie as tie
 

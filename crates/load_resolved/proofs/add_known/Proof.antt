@@ -9,13 +9,13 @@ mul-xs : tie.Need-mul-xs
 mul-xs c = search needs
 
 slice-read-xs : tie.Need-slice-read-xs
-slice-read-xs c = search needs
+slice-read-xs c = c .before .pre
 
 mul-xs-2 : tie.Need-mul-xs-2
 mul-xs-2 c = search needs
 
 slice-write-xs : tie.Need-slice-write-xs
-slice-write-xs c = search needs
+slice-write-xs c = c .before .pre
 
 same-length : tie.Need-same-length
 same-length c = search needs
