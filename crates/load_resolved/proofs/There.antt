@@ -57,11 +57,11 @@ module _ (n a b : ℕ) (none : (eqb a skippedNumber || eqb b skippedNumber) ≡ 
   unfolding allBelow branchStored cellThere grounded nodeAt
   branch-same aa ab bb ba = rw (or-left (eqb a skippedNumber) (eqb b skippedNumber) none, or-right (eqb a skippedNumber) (eqb b skippedNumber) none)
 
-  pub pair-below : (aa ab ba bb : ℕ) → pairStored n a b aa ab ba bb ≡ true → (aa < n) × ((ab < n) × ((ba < n) × (bb < n)))
-  pair-below aa ab ba bb e = four-below n aa ab ba bb (pair-same aa ab ba bb ∙ e)
+  pub pair-known : (aa ab ba bb : ℕ) → pairStored n a b aa ab ba bb ≡ true → (aa < n) × ((ab < n) × ((ba < n) × (bb < n)))
+  pair-known aa ab ba bb e = four-below n aa ab ba bb (pair-same aa ab ba bb ∙ e)
 
-  pub branch-below : (aa ab bb ba : ℕ) → branchStored n true a b aa ab bb ba ≡ true → (aa < n) × ((ab < n) × ((bb < n) × (ba < n)))
-  branch-below aa ab bb ba e = four-below n aa ab bb ba (branch-same aa ab bb ba ∙ e)
+  pub branch-known : (aa ab bb ba : ℕ) → branchStored n true a b aa ab bb ba ≡ true → (aa < n) × ((ab < n) × ((bb < n) × (ba < n)))
+  branch-known aa ab bb ba e = four-below n aa ab bb ba (branch-same aa ab bb ba ∙ e)
 
 -- the channel's eight, where none of its nodes is
 module _ (n : ℕ) (t : Nodes) (w : List ℕ)
@@ -77,8 +77,8 @@ module _ (n : ℕ) (t : Nodes) (w : List ℕ)
       let others = or-right (d || g) (s || b) none in
       rw (or-left d g ends, or-right d g ends, or-left s b others, or-right s b others)
 
-  pub channel-below : pairsStored n (channelPairs t) (numbersFrom w 8 8) ≡ true → allBelow n (numbersFrom w 8 8) ≡ true
-  channel-below e = channel-same ∙ e
+  pub channel-known : pairsStored n (channelPairs t) (numbersFrom w 8 8) ≡ true → allBelow n (numbersFrom w 8 8) ≡ true
+  channel-known e = channel-same ∙ e
 
 -- pairs one after another, each part with as many places
 pairs-apart : (n : ℕ) (cs ds : List Position) (ps qs : List ℕ) → length cs ≡ length ps → pairsStored n (cs ++ ds) (ps ++ qs) ≡ true → (pairsStored n cs ps ≡ true) × (pairsStored n ds qs ≡ true)
