@@ -31,10 +31,15 @@ pairs-below n (c ∷ cs) [] e = refl
 pairs-below n (c ∷ cs) (p ∷ ps) e =
     both-true _ _ (or-true (grounded c) (ltb p n) (and-left (ltb p n) (allBelow n ps) e)) (pairs-below n cs ps (and-right (ltb p n) (allBelow n ps) e))
 
-below-front : (n : ℕ) (ps qs : List ℕ) → allBelow n (ps ++ qs) ≡ true → allBelow n ps ≡ true
+pub below-front : (n : ℕ) (ps qs : List ℕ) → allBelow n (ps ++ qs) ≡ true → allBelow n ps ≡ true
 unfolding allBelow
 below-front n [] qs e = refl
 below-front n (p ∷ ps) qs e = both-true _ _ (and-left (ltb p n) (allBelow n (ps ++ qs)) e) (below-front n ps qs (and-right (ltb p n) (allBelow n (ps ++ qs)) e))
+
+pub below-back : (n : ℕ) (ps qs : List ℕ) → allBelow n (ps ++ qs) ≡ true → allBelow n qs ≡ true
+unfolding allBelow
+below-back n [] qs e = e
+below-back n (p ∷ ps) qs e = below-back n ps qs (and-right (ltb p n) (allBelow n (ps ++ qs)) e)
 
 below-at : (n : ℕ) (w : List ℕ) (k m j : ℕ) → allBelow n (numbersFrom w k m) ≡ true → j < m → ltb (getD w (k + j) 0) n ≡ true
 unfolding allBelow numbersFrom
@@ -75,16 +80,16 @@ branch-below n true a b aa ab bb ba e f g h = rw (cell-below n a a aa e, cell-be
 branch-below n false a b aa ab bb ba e f g h = refl
 
 module _ (n : ℕ) (w : List ℕ) (e : allBelow n (numbersFrom w 8 29) ≡ true) where
-  pub pairs-held : (cs : List Position) → pairsStored n cs (numbersFrom w 8 24) ≡ true
+  pub no-pair-missed : (cs : List Position) → pairsStored n cs (numbersFrom w 8 24) ≡ true
   unfolding numbersFrom
-  pairs-held cs = pairs-below n cs (numbersFrom w 8 24) (below-front n (numbersFrom w 8 24) (numbersFrom w 32 5) e)
+  no-pair-missed cs = pairs-below n cs (numbersFrom w 8 24) (below-front n (numbersFrom w 8 24) (numbersFrom w 32 5) e)
 
   place : (j : ℕ) → j < 29 → ltb (getD w (8 + j) 0) n ≡ true
   place j h = below-at n w 8 29 j e h
 
-  pub branches-held : (t : Nodes) (q : Charges) → branchesStored n t w q ≡ true
+  pub no-branch-missed : (t : Nodes) (q : Charges) → branchesStored n t w q ≡ true
   unfolding branchesStored
-  branches-held t q =
+  no-branch-missed t q =
       both-true _ _
       (both-true _ _
       (both-true _ _

@@ -19,7 +19,7 @@ use Rattle.loading.specs.Loading.{branchesOf, noBranches, noBranch, jacobianCon
 use Rattle.loading.specs.declared.LoadKind.{LoadKind}
 use Rattle.loading.specs.declared.LoadKind.the-variants.{DirectCurrent, Transient}
 use Rattle.load_resolved.specs.LoadResolved.{numbersFrom, madeFor, grounded, allStored, branchPlaces, storedPlaces, cellsHeld}
-use Rattle.load_resolved.specs.ByNumbers.{cellThere, pairsStored, branchStored, branchesStored, nodesAre, held, isTransient}
+use Rattle.load_resolved.specs.ByNumbers.{cellThere, pairsStored, branchStored, branchesStored, conductingStored, nodesAre, held, isTransient}
 
 and-move : (a b c : Bool) → (a && (b && c)) ≡ ((a && b) && c)
 and-move true b c = refl
@@ -148,13 +148,9 @@ module _ (n : ℕ) (m : Nodes) (w : List ℕ) (d : Mosfet1) (br : ChargeBranches
   unfolding pairsStored allStored paired jacPairsOf jacValuesOf numbersFrom
   pairs-same = refl
 
-  five-same : (branchStored n (br .gs .conducts) (m .gate) (m .source) (getD w 32 0) (getD w 33 0) (getD w 14 0) (getD w 12 0)
-      && branchStored n (br .gd .conducts) (m .gate) (m .drain) (getD w 32 0) (getD w 34 0) (getD w 9 0) (getD w 8 0)
-      && branchStored n (br .gb .conducts) (m .gate) (m .bulk) (getD w 32 0) (getD w 35 0) (getD w 24 0) (getD w 36 0)
-      && branchStored n (br .bs .conducts) (m .bulk) (m .source) (getD w 24 0) (getD w 25 0) (getD w 14 0) (getD w 15 0)
-      && branchStored n (br .bd .conducts) (m .bulk) (m .drain) (getD w 24 0) (getD w 29 0) (getD w 9 0) (getD w 11 0))
+  five-same : conductingStored n m w br
       ≡ (allStored n gsCells gsPlaces && allStored n gdCells gdPlaces && allStored n gbCells gbPlaces && allStored n bsCells bsPlaces && allStored n bdCells bdPlaces)
-  unfolding branchCells branchPlaces
+  unfolding conductingStored branchCells branchPlaces
   five-same = rw (
     by-conducts n (m .gate) (m .source) (getD w 32 0) (getD w 33 0) (getD w 14 0) (getD w 12 0) (br .gs .conductance) (br .gs .conducts),
     by-conducts n (m .gate) (m .drain) (getD w 32 0) (getD w 34 0) (getD w 9 0) (getD w 8 0) (br .gd .conductance) (br .gd .conducts),
@@ -175,7 +171,7 @@ module _ (n : ℕ) (m : Nodes) (w : List ℕ) (d : Mosfet1) (br : ChargeBranches
 by-kind : (n : ℕ) (m : Nodes) (w : List ℕ) (d : Mosfet1) (k : LoadKind)
     → (pairsStored n (jacPairsOf (terminalsAt m)) (numbersFrom w 8 24) && cond (isTransient k) (branchesStored n m w (d .charges)) true)
     ≡ allStored n (matrixContributions (terminalsAt m) (jacValuesOf d) (branchesOf d k)) (storedPlaces w (branchesOf d k))
-unfolding branchesOf branchesStored branchStored chargeBranchesOf branchOf junctionBranchOf noBranches noBranch
+unfolding branchesOf branchesStored conductingStored branchStored chargeBranchesOf branchOf junctionBranchOf noBranches noBranch
 by-kind n m w d DirectCurrent = joined n m w d noBranches true (five-same n m w d noBranches)
 by-kind n m w d (Transient alpha) = joined n m w d (chargeBranchesOf d alpha) (branchesStored n m w (d .charges)) (five-same n m w d (chargeBranchesOf d alpha))
 

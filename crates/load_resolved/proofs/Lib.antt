@@ -6,3 +6,5 @@ pub mod NoConductance
 pub mod Held
 pub mod Outcomes
 pub mod Parts
+pub mod There
+pub mod Known

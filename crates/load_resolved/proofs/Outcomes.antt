@@ -31,3 +31,11 @@ five-early false true c d e h = absurd (omega arith)
 five-early false false true d e h = absurd (omega arith)
 five-early false false false true e h = absurd (omega arith)
 five-early false false false false e h = refl
+
+pub five-last : (a b c d e : Bool) → rowNumber ((8 when a) ∷ (10 when b) ∷ (11 when c) ∷ (12 when d) ∷ (13 when e) ∷ []) ≡ 0 → e ≡ false
+five-last true b c d e h = absurd (omega arith)
+five-last false true c d e h = absurd (omega arith)
+five-last false false true d e h = absurd (omega arith)
+five-last false false false true e h = absurd (omega arith)
+five-last false false false false true h = absurd (omega arith)
+five-last false false false false false h = refl

@@ -9,7 +9,7 @@ use lib.Ieee.{Float, neg}
 use Rattle.device.specs.declared.NodeId.the-variants.{Ground, At}
 use Rattle.device.specs.declared.Mosfet1.{Mosfet1}
 use Rattle.device.specs.declared.OperatingPoint.{OperatingPoint}
-use Rattle.stamps.specs.Stamps.{position, jacPairsOf, jacValuesOf, seriesOf, channelValues}
+use Rattle.stamps.specs.Stamps.{position, jacPairsOf, jacValuesOf, pairBetween, valuesBetween, seriesOf, channelValues}
 use Rattle.stamps.specs.declared.ChargeBranch.{ChargeBranch}
 use Rattle.stamps.specs.declared.ChargeBranches.{ChargeBranches}
 use Rattle.places.specs.Places.{skippedNumber, nodeAt, terminalsAt}
@@ -33,11 +33,11 @@ pub add-between : (xs : List Float) (row column p : ℕ) (x : Float) → length 
 unfolding placeBetween storedPlace grounded nodeAt
 add-between xs row column p x room = between xs row column p x (eqb row skippedNumber) (eqb column skippedNumber) room
 
-or-left : (a b : Bool) → (a || b) ≡ false → a ≡ false
+pub or-left : (a b : Bool) → (a || b) ≡ false → a ≡ false
 or-left true b e = e
 or-left false b e = refl
 
-or-right : (a b : Bool) → (a || b) ≡ false → b ≡ false
+pub or-right : (a b : Bool) → (a || b) ≡ false → b ≡ false
 or-right true b e = absurd (false≢true (sym e))
 or-right false b e = e
 
@@ -76,7 +76,7 @@ length-stored [] ps xs = refl
 length-stored (c ∷ cs) [] xs = refl
 length-stored (c ∷ cs) (p ∷ ps) xs = length-stored cs ps _ ∙ length-place (storedPlace (c .position) p) (c .value) xs
 
-length-branch : (br : ChargeBranch) (a b aa ab bb ba : ℕ) (xs : List Float) → length (addBranch br a b aa ab bb ba xs) ≡ length xs
+pub length-branch : (br : ChargeBranch) (a b aa ab bb ba : ℕ) (xs : List Float) → length (addBranch br a b aa ab bb ba xs) ≡ length xs
 unfolding addBranch
 length-branch br a b aa ab bb ba xs = length-stored _ _ xs
 
@@ -88,6 +88,13 @@ length-branches n w br xs =
 pub length-channel : (n : Nodes) (w : List ℕ) (p : OperatingPoint) (xs : List Float) → length (addChannel n w p xs) ≡ length xs
 unfolding addChannel
 length-channel n w p xs = length-stored (paired (channelPairs n) (channelValues p [])) (numbersFrom w 8 8) xs
+
+pub length-pair : (a b : ℕ) (g : Float) (aa ab ba bb : ℕ) (xs : List Float) → length (addPair a b g aa ab ba bb xs) ≡ length xs
+unfolding addPair
+length-pair a b g aa ab ba bb xs = length-stored (paired (pairBetween (nodeAt a) (nodeAt b) []) (valuesBetween g [])) (aa ∷ ab ∷ ba ∷ bb ∷ []) xs
+
+pub length-row : (p q r s : ℕ) (a b c d : Float) (xs : List Float) → length (addAt (addAt (addAt (addAt xs p a) q b) r c) s d) ≡ length xs
+length-row p q r s a b c d xs = length-add _ s d ∙ length-add _ r c ∙ length-add _ q b ∙ length-add xs p a
 
 -- the 24 values are the channel's eight and four conductances
 pub jacobian-parts : (n : Nodes) (w : List ℕ) (d : Mosfet1) (xs : List Float)

@@ -29,6 +29,10 @@ pairsStored n [] ps = true
 pairsStored n (c ∷ cs) [] = true
 pairsStored n (c ∷ cs) (p ∷ ps) = (grounded c || ltb p n) && pairsStored n cs ps
 
+-- a conductance's four cells, in the order of the pairs
+unfoldable pub pairStored : ℕ → ℕ → ℕ → ℕ → ℕ → ℕ → ℕ → Bool
+pairStored n a b aa ab ba bb = pairsStored n (pairBetween (nodeAt a) (nodeAt b) []) (aa ∷ ab ∷ ba ∷ bb ∷ [])
+
 -- a conducting branch's four cells
 unfoldable pub branchStored : ℕ → Bool → ℕ → ℕ → ℕ → ℕ → ℕ → ℕ → Bool
 branchStored n conducts a b aa ab bb ba =
@@ -42,6 +46,15 @@ branchesStored n t w q =
     && branchStored n (q .«cgb_eval» ≠f +0) (t .gate) (t .bulk) (getD w 32 0) (getD w 35 0) (getD w 24 0) (getD w 36 0)
     && branchStored n (q .«cbs_eval» ≠f +0) (t .bulk) (t .source) (getD w 24 0) (getD w 25 0) (getD w 14 0) (getD w 15 0)
     && branchStored n (q .«cbd_eval» ≠f +0) (t .bulk) (t .drain) (getD w 24 0) (getD w 29 0) (getD w 9 0) (getD w 11 0)
+
+-- the same of branches that were made: each says itself whether it conducts
+unfoldable pub conductingStored : ℕ → Nodes → List ℕ → ChargeBranches → Bool
+conductingStored n t w br =
+    branchStored n (br .gs .conducts) (t .gate) (t .source) (getD w 32 0) (getD w 33 0) (getD w 14 0) (getD w 12 0)
+    && branchStored n (br .gd .conducts) (t .gate) (t .drain) (getD w 32 0) (getD w 34 0) (getD w 9 0) (getD w 8 0)
+    && branchStored n (br .gb .conducts) (t .gate) (t .bulk) (getD w 32 0) (getD w 35 0) (getD w 24 0) (getD w 36 0)
+    && branchStored n (br .bs .conducts) (t .bulk) (t .source) (getD w 24 0) (getD w 25 0) (getD w 14 0) (getD w 15 0)
+    && branchStored n (br .bd .conducts) (t .bulk) (t .drain) (getD w 24 0) (getD w 29 0) (getD w 9 0) (getD w 11 0)
 
 -- each of the places is among n values
 unfoldable pub allBelow : ℕ → List ℕ → Bool

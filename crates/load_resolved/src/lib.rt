@@ -15,7 +15,7 @@ use stamps::ChargeBranches;
 ghost use Prim.Native.Nat.{_+_, _<_};
 ghost use mathlib.Core.Path.{_≡_};
 ghost use mathlib.Core.Bool.{true, false, not, _&&_, _||_};
-ghost use mathlib.Core.List.{[]};
+ghost use mathlib.Core.List.{[], _∷_};
 ghost use lib.ListN.{length, getD};
 ghost use lib.Dec.{eqb};
 ghost use lib.Ieee.{neg};
@@ -27,7 +27,7 @@ ghost use Rattle.adding.specs.Adding.{addAt, addAll, addSources, offsetSources}
 ghost use Rattle.assembly.specs.Assembly.{addPlace, paired};
 ghost use Rattle.loading.specs.Loading.{nodesOutside, alphaOutside, earlyRow, outcomeOfLoad};
 ghost use Rattle.load_resolved.specs.LoadResolved.{numbersFrom, storedPlace, addStored, resolvedRowOf, LoadedResolved};
-ghost use Rattle.load_resolved.specs.ByNumbers.{cellThere, pairsStored, branchStored, branchesStored, allBelow, nodesAre, held, isTransient, placeBetween, addChannel, addRow, addPair, addConductance, addBranch, addBranchesStored, historySources};
+ghost use Rattle.load_resolved.specs.ByNumbers.{cellThere, pairsStored, pairStored, branchStored, branchesStored, conductingStored, allBelow, nodesAre, held, isTransient, placeBetween, channelPairs, addChannel, addRow, addPair, addConductance, addBranch, addBranchesStored, historySources};
 
 // The number of ground among the nodes, and of a place that is skipped.
 const SKIPPED: usize = 18446744073709551615;
@@ -237,8 +237,9 @@ fn early_row(
     0
 }
 
-// The row that refuses a load into a right-hand side of so many rows and so many values, 0 where none does.
-fn resolved_row(
+// The row that refuses a load into a right-hand side of so many rows and so many values, 0 where none does. `inside` says that the
+// caller knows that row 8 does not apply; where it is false, nothing is known, and the nodes are asked.
+pub fn resolved_row(
     d: Mosfet1,
     kind: LoadKind,
     inside: bool,
@@ -294,6 +295,14 @@ fn any_ground(a: usize, b: usize, c: usize, d: usize) -> bool
     either_ground(c, d)
 }
 
+// A value added at a place that is known to be among the values: the rows were asked for before the first write.
+fn add_known(xs: &mut [f64], place: usize, x: f64)
+    requires { ⌜ place < length (now xs) ⌝ }
+    ensures { λ r. ⌜ now (xs .exit) ≡ addAt (now (xs .entry)) place x ⌝ }
+{
+    xs[place] = xs[place] + x;
+}
+
 // A value added at a stored place, unless an end of its position is ground.
 fn add_cell(xs: &mut [f64], row: usize, column: usize, place: usize, x: f64)
     ensures { λ r. ⌜ now (xs .exit) ≡ addPlace (storedPlace (position (nodeAt row) (nodeAt column)) place) x (now (xs .entry)) ⌝ }
@@ -334,18 +343,19 @@ fn add_channel_by_cell(xs: &mut [f64], n: Nodes, cells: &[usize; 37], p: Operati
     row_by_cell(xs, n.source, n, cells, 12, -gm, -gds, gms, -gmbs);
 }
 
-// The same where none is: every place counts.
+// The same where none is: every place counts, and is known to be there.
 fn row_plain(xs: &mut [f64], cells: &[usize; 37], k: usize, g: f64, d: f64, s: f64, b: f64)
-    requires { ⌜ k + 3 < 37 ⌝ }
+    requires { ⌜ (k + 3 < 37) × (allBelow (length (now xs)) (getD (now cells) k 0 ∷ getD (now cells) (k + 1) 0 ∷ getD (now cells) (k + 2) 0 ∷ getD (now cells) (k + 3) 0 ∷ []) ≡ true) ⌝ }
     ensures { λ r. ⌜ now (xs .exit) ≡ addAt (addAt (addAt (addAt (now (xs .entry)) (getD (now (cells .entry)) k 0) g) (getD (now (cells .entry)) (k + 1) 0) d) (getD (now (cells .entry)) (k + 2) 0) s) (getD (now (cells .entry)) (k + 3) 0) b ⌝ }
 {
-    adding::add_at(xs, cells[k], g);
-    adding::add_at(xs, cells[k + 1], d);
-    adding::add_at(xs, cells[k + 2], s);
-    adding::add_at(xs, cells[k + 3], b);
+    add_known(xs, cells[k], g);
+    add_known(xs, cells[k + 1], d);
+    add_known(xs, cells[k + 2], s);
+    add_known(xs, cells[k + 3], b);
 }
 
 fn add_channel_plain(xs: &mut [f64], cells: &[usize; 37], p: OperatingPoint)
+    requires { ⌜ allBelow (length (now xs)) (numbersFrom (now cells) 8 8) ≡ true ⌝ }
     ensures { λ r. ⌜ now (xs .exit) ≡ addAll (now (xs .entry)) (numbersFrom (now (cells .entry)) 8 8) (channelValues p []) ⌝ }
 {
     let gm = p.gm;
@@ -358,6 +368,7 @@ fn add_channel_plain(xs: &mut [f64], cells: &[usize; 37], p: OperatingPoint)
 
 // The channel's eight values. Ground is asked for once for all of them, not at each.
 fn add_channel(xs: &mut [f64], n: Nodes, cells: &[usize; 37], p: OperatingPoint)
+    requires { ⌜ pairsStored (length (now xs)) (channelPairs n) (numbersFrom (now cells) 8 8) ≡ true ⌝ }
     ensures { λ r. ⌜ now (xs .exit) ≡ addChannel n (now (cells .entry)) p (now (xs .entry)) ⌝ }
 {
     if any_ground(n.drain, n.gate, n.source, n.bulk) {
@@ -367,8 +378,9 @@ fn add_channel(xs: &mut [f64], n: Nodes, cells: &[usize; 37], p: OperatingPoint)
     }
 }
 
-// A conductance between the nodes a and b, in the order of `jac_pairs`. Ground is asked for once.
+// A conductance between the nodes a and b, in the order of `jac_pairs`. Ground is asked for once; where there is none, the places are known to be there.
 fn add_pair(xs: &mut [f64], a: usize, b: usize, g: f64, aa: usize, ab: usize, ba: usize, bb: usize)
+    requires { ⌜ pairStored (length (now xs)) a b aa ab ba bb ≡ true ⌝ }
     ensures { λ r. ⌜ now (xs .exit) ≡ addPair a b g aa ab ba bb (now (xs .entry)) ⌝ }
 {
     if either_ground(a, b) {
@@ -377,10 +389,10 @@ fn add_pair(xs: &mut [f64], a: usize, b: usize, g: f64, aa: usize, ab: usize, ba
         add_cell(xs, b, a, ba, -g);
         add_cell(xs, b, b, bb, g);
     } else {
-        adding::add_at(xs, aa, g);
-        adding::add_at(xs, ab, -g);
-        adding::add_at(xs, ba, -g);
-        adding::add_at(xs, bb, g);
+        add_known(xs, aa, g);
+        add_known(xs, ab, -g);
+        add_known(xs, ba, -g);
+        add_known(xs, bb, g);
     }
 }
 
@@ -447,6 +459,7 @@ fn add_series(
     ba: usize,
     bb: usize,
 )
+    requires { ⌜ pairStored (length (now xs)) a b aa ab ba bb ≡ true ⌝ }
     ensures { λ o. ⌜ now (xs .exit) ≡ addPair a b (seriesOf r) aa ab ba bb (now (xs .entry)) ⌝ }
 {
     if r > 0.0 {
@@ -458,7 +471,7 @@ fn add_series(
 
 // A conductance at the four places from k on. Reading them here keeps the caller short.
 fn pair_at(xs: &mut [f64], a: usize, b: usize, g: f64, cells: &[usize; 37], k: usize)
-    requires { ⌜ k + 3 < 37 ⌝ }
+    requires { ⌜ (k + 3 < 37) × (pairStored (length (now xs)) a b (getD (now cells) k 0) (getD (now cells) (k + 1) 0) (getD (now cells) (k + 2) 0) (getD (now cells) (k + 3) 0) ≡ true) ⌝ }
     ensures { λ r. ⌜ now (xs .exit) ≡ addPair a b g (getD (now (cells .entry)) k 0) (getD (now (cells .entry)) (k + 1) 0) (getD (now (cells .entry)) (k + 2) 0) (getD (now (cells .entry)) (k + 3) 0) (now (xs .entry)) ⌝ }
 {
     add_pair(
@@ -474,7 +487,7 @@ fn pair_at(xs: &mut [f64], a: usize, b: usize, g: f64, cells: &[usize; 37], k: u
 }
 
 fn series_at(xs: &mut [f64], a: usize, b: usize, r: f64, cells: &[usize; 37], k: usize)
-    requires { ⌜ k + 3 < 37 ⌝ }
+    requires { ⌜ (k + 3 < 37) × (pairStored (length (now xs)) a b (getD (now cells) k 0) (getD (now cells) (k + 1) 0) (getD (now cells) (k + 2) 0) (getD (now cells) (k + 3) 0) ≡ true) ⌝ }
     ensures { λ o. ⌜ now (xs .exit) ≡ addPair a b (seriesOf r) (getD (now (cells .entry)) k 0) (getD (now (cells .entry)) (k + 1) 0) (getD (now (cells .entry)) (k + 2) 0) (getD (now (cells .entry)) (k + 3) 0) (now (xs .entry)) ⌝ }
 {
     add_series(
@@ -491,6 +504,7 @@ fn series_at(xs: &mut [f64], a: usize, b: usize, r: f64, cells: &[usize; 37], k:
 
 // `load_jacobian`: the channel, the series resistances, the junctions.
 fn add_jacobian(xs: &mut [f64], n: Nodes, cells: &[usize; 37], d: Mosfet1)
+    requires { ⌜ pairsStored (length (now xs)) (jacPairsOf (terminalsAt n)) (numbersFrom (now cells) 8 24) ≡ true ⌝ }
     ensures { λ r. ⌜ now (xs .exit) ≡ addStored (paired (jacPairsOf (terminalsAt n)) (jacValuesOf d)) (numbersFrom (now (cells .entry)) 8 24) (now (xs .entry)) ⌝ }
 {
     let rd = d.geometry.rd;
@@ -509,8 +523,9 @@ fn add_jacobian(xs: &mut [f64], n: Nodes, cells: &[usize; 37], d: Mosfet1)
     pair_at(xs, bulk, drain, gbd, cells, 28);
 }
 
-// A conductance at its four cells, in the order of `stamp_g_pair`. Ground is asked for once.
+// A conductance at its four cells, in the order of `stamp_g_pair`. Ground is asked for once, as in `add_pair`.
 fn add_four(xs: &mut [f64], a: usize, b: usize, g: f64, aa: usize, ab: usize, bb: usize, ba: usize)
+    requires { ⌜ branchStored (length (now xs)) true a b aa ab bb ba ≡ true ⌝ }
     ensures { λ r. ⌜ now (xs .exit) ≡ addConductance a b g aa ab bb ba (now (xs .entry)) ⌝ }
 {
     if either_ground(a, b) {
@@ -519,10 +534,10 @@ fn add_four(xs: &mut [f64], a: usize, b: usize, g: f64, aa: usize, ab: usize, bb
         add_cell(xs, b, b, bb, g);
         add_cell(xs, b, a, ba, -g);
     } else {
-        adding::add_at(xs, aa, g);
-        adding::add_at(xs, ab, -g);
-        adding::add_at(xs, bb, g);
-        adding::add_at(xs, ba, -g);
+        add_known(xs, aa, g);
+        add_known(xs, ab, -g);
+        add_known(xs, bb, g);
+        add_known(xs, ba, -g);
     }
 }
 
@@ -537,6 +552,7 @@ fn add_branch(
     bb: usize,
     ba: usize,
 )
+    requires { ⌜ branchStored (length (now xs)) (br .conducts) a b aa ab bb ba ≡ true ⌝ }
     ensures { λ r. ⌜ now (xs .exit) ≡ addBranch br a b aa ab bb ba (now (xs .entry)) ⌝ }
 {
     let g = br.conductance;
@@ -557,13 +573,15 @@ fn branch_at(
     bb: usize,
     ba: usize,
 )
-    requires { ⌜ (aa < 37) × ((ab < 37) × ((bb < 37) × (ba < 37))) ⌝ }
+    requires { ⌜ (aa < 37) × ((ab < 37) × ((bb < 37) × ((ba < 37)
+        × (branchStored (length (now xs)) (br .conducts) a b (getD (now cells) aa 0) (getD (now cells) ab 0) (getD (now cells) bb 0) (getD (now cells) ba 0) ≡ true)))) ⌝ }
     ensures { λ r. ⌜ now (xs .exit) ≡ addBranch br a b (getD (now (cells .entry)) aa 0) (getD (now (cells .entry)) ab 0) (getD (now (cells .entry)) bb 0) (getD (now (cells .entry)) ba 0) (now (xs .entry)) ⌝ }
 {
     add_branch(xs, br, a, b, cells[aa], cells[ab], cells[bb], cells[ba]);
 }
 
 fn add_branches(xs: &mut [f64], n: Nodes, cells: &[usize; 37], b: ChargeBranches)
+    requires { ⌜ conductingStored (length (now xs)) n (now cells) b ≡ true ⌝ }
     ensures { λ r. ⌜ now (xs .exit) ≡ addBranchesStored n (now (cells .entry)) b (now (xs .entry)) ⌝ }
 {
     let gate = n.gate;
@@ -609,8 +627,9 @@ fn charge_branches(d: Mosfet1, alpha: f64) -> ChargeBranches
     }
 }
 
-// `load_jacobian` and `load_residual`; the rows were asked for before.
-fn add_static(d: Mosfet1, cells: &[usize; 37], rhs: &mut [f64], values: &mut [f64])
+// `load_jacobian` and `load_residual`. The rows were asked for before, so every place that counts is there.
+pub fn add_static(d: Mosfet1, cells: &[usize; 37], rhs: &mut [f64], values: &mut [f64])
+    requires { ⌜ pairsStored (length (now values)) (jacPairsOf (terminalsAt (nodesOf (d .terminals)))) (numbersFrom (now cells) 8 24) ≡ true ⌝ }
     ensures { λ r. ⌜ (now (values .exit) ≡ addStored (paired (jacPairsOf (terminalsAt (nodesOf (d .terminals)))) (jacValuesOf d)) (numbersFrom (now (cells .entry)) 8 24) (now (values .entry)))
         × (now (rhs .exit) ≡ addSources (offsetSources (terminalsAt (nodesOf (d .terminals))) (residualOf d)) (now (rhs .entry))) ⌝ }
 {
@@ -621,7 +640,8 @@ fn add_static(d: Mosfet1, cells: &[usize; 37], rhs: &mut [f64], values: &mut [f6
 }
 
 // What `load_jacobian_tran` and `load_residual_tran` add to that: the charge branches.
-fn add_charges(d: Mosfet1, alpha: f64, cells: &[usize; 37], rhs: &mut [f64], values: &mut [f64])
+pub fn add_charges(d: Mosfet1, alpha: f64, cells: &[usize; 37], rhs: &mut [f64], values: &mut [f64])
+    requires { ⌜ branchesStored (length (now values)) (nodesOf (d .terminals)) (now cells) (d .charges) ≡ true ⌝ }
     ensures { λ r. ⌜ (now (values .exit) ≡ addBranchesStored (nodesOf (d .terminals)) (now (cells .entry)) (chargeBranchesOf d alpha) (now (values .entry)))
         × (now (rhs .exit) ≡ addSources (historySources (nodesOf (d .terminals)) (chargeBranchesOf d alpha)) (now (rhs .entry))) ⌝ }
 {
@@ -631,32 +651,7 @@ fn add_charges(d: Mosfet1, alpha: f64, cells: &[usize; 37], rhs: &mut [f64], val
     add_histories(rhs, n, b);
 }
 
-// A load by cells that were looked up before. `inside` says that the caller knows that row 8 does not apply; where it is false, nothing is
-// known, and the nodes are asked. A refused load leaves both slices as they were.
-pub fn load_known(
-    d: Mosfet1,
-    kind: LoadKind,
-    inside: bool,
-    cells: &[usize; 37],
-    rhs: &mut [f64],
-    values: &mut [f64],
-) -> LoadAnswer
-    requires { ⌜ (inside ≡ true → nodesOutside (d .stage) (d .terminals) (length (now rhs)) (getD (now cells) 6 0) ≡ false) ⌝ }
-    ensures { λ r. ⌜ LoadedResolved d kind (now (cells .entry)) (now (rhs .entry)) (now (values .entry)) (outcomeOfLoad r) (now (rhs .exit)) (now (values .exit)) ⌝ }
-{
-    let row = resolved_row(d, kind, inside, cells, rhs.len(), values.len());
-    if row != 0 {
-        return LoadAnswer::Refused(row);
-    }
-    add_static(d, cells, rhs, values);
-    match kind {
-        LoadKind::DirectCurrent => {}
-        LoadKind::Transient(alpha) => add_charges(d, alpha, cells, rhs, values),
-    }
-    LoadAnswer::Done
-}
-
-// The same where nothing is known of the nodes.
+// A load by cells that were looked up before, where nothing is known of the nodes. A refused load leaves both slices as they were.
 pub fn load_resolved(
     d: Mosfet1,
     kind: LoadKind,
@@ -666,5 +661,14 @@ pub fn load_resolved(
 ) -> LoadAnswer
     ensures { λ r. ⌜ LoadedResolved d kind (now (cells .entry)) (now (rhs .entry)) (now (values .entry)) (outcomeOfLoad r) (now (rhs .exit)) (now (values .exit)) ⌝ }
 {
-    load_known(d, kind, false, cells, rhs, values)
+    let row = resolved_row(d, kind, false, cells, rhs.len(), values.len());
+    if row != 0 {
+        return LoadAnswer::Refused(row);
+    }
+    add_static(d, cells, rhs, values);
+    match kind {
+        LoadKind::DirectCurrent => {}
+        LoadKind::Transient(alpha) => add_charges(d, alpha, cells, rhs, values),
+    }
+    LoadAnswer::Done
 }

@@ -1,13 +1,19 @@
 -- `load_resolved::add_branch`: where it conducts.
+use mathlib.Core.Path.{_≡_, subst}
+use mathlib.Core.Bool.{Bool, true}
+use lib.ListN.{length}
+use denote.Ref.{now}
 use Rattle.assembly.specs.Assembly.{branchCells}
 use Rattle.load_resolved.specs.LoadResolved.{addStored, branchPlaces}
-use Rattle.load_resolved.specs.ByNumbers.{addBranch, addConductance}
+use Rattle.load_resolved.specs.ByNumbers.{branchStored, addBranch, addConductance}
 use borrow.Author.Needs.{needs}
 use Rattle.load_resolved.proofs.add_branch.Statement.{statement}
 use Rattle.load_resolved.proofs.add_branch.Tie as tie
 
 add-four-requires : tie.Need-add-four-requires
-add-four-requires c κs = search needs
+add-four-requires c κs =
+    let s = c .before .before .before in
+    subst (λ (conducts : Bool). branchStored (length (now (s .args .xs))) conducts (s .args .a) (s .args .b) (s .args .aa) (s .args .ab) (s .args .bb) (s .args .ba) ≡ true) (c .before .if1 .taken) (s .pre)
 
 same-length : tie.Need-same-length
 same-length c = search needs

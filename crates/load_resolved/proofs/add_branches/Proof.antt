@@ -1,26 +1,42 @@
 -- `load_resolved::add_branches`: five branches in turn.
-use mathlib.Core.Path.{ap, _∙_}
+use mathlib.Core.Path.{_≡_, sym, ap, _∙_, subst}
+use mathlib.Core.Bool.{true}
+use Prim.Native.Nat.{ℕ}
+use native.Mathlib.Omega.{arith}
 use lib.ListN.{length}
-use Rattle.load_resolved.specs.ByNumbers.{addBranchesStored}
-use Rattle.load_resolved.proofs.Stored.{length-branches}
-use borrow.Author.Needs.{needs}
+use denote.Ref.{now}
+use Rattle.load_resolved.specs.ByNumbers.{conductingStored, addBranchesStored}
+use Rattle.load_resolved.proofs.Stored.{length-branch, length-branches}
+use Rattle.load_resolved.proofs.There.{gs-stored, gd-stored, gb-stored, bs-stored, bd-stored}
 use Rattle.load_resolved.proofs.add_branches.Statement.{statement}
 use Rattle.load_resolved.proofs.add_branches.Tie as tie
 
+-- what was asked for of the values at the start, of as many later
+later : (s : tie.Start) {n : ℕ} → n ≡ length (now (s .args .xs)) → conductingStored n (s .args .n) (now (s .args .cells)) (s .args .b) ≡ true
+later s same = subst (λ (n : ℕ). conductingStored n (s .args .n) (now (s .args .cells)) (s .args .b) ≡ true) (sym same) (s .pre)
+
 branch-at-requires : tie.Need-branch-at-requires
-branch-at-requires c κs = search needs
+branch-at-requires c κs = (omega arith, (omega arith, (omega arith, (omega arith, gs-stored _ _ _ _ (c .before .before .pre)))))
 
 branch-at-requires-2 : tie.Need-branch-at-requires-2
-branch-at-requires-2 c κs = search needs
+branch-at-requires-2 c κs =
+    let same = ap length (c .before .before .before .branch-at .ensures) ∙ length-branch _ _ _ _ _ _ _ _ in
+    (omega arith, (omega arith, (omega arith, (omega arith, gd-stored _ _ _ _ (later (c .before .before .before .before .before .before) same)))))
 
 branch-at-requires-3 : tie.Need-branch-at-requires-3
-branch-at-requires-3 c κs = search needs
+branch-at-requires-3 c κs =
+    let same = ap length (c .before .before .before .branch-at2 .ensures) ∙ length-branch _ _ _ _ _ _ _ _ ∙ ap length (c .before .before .before .before .before .before .before .branch-at .ensures) ∙ length-branch _ _ _ _ _ _ _ _ in
+    (omega arith, (omega arith, (omega arith, (omega arith, gb-stored _ _ _ _ (later (c .before .before .before .before .before .before .before .before .before .before) same)))))
 
 branch-at-requires-4 : tie.Need-branch-at-requires-4
-branch-at-requires-4 c κs = search needs
+branch-at-requires-4 c κs =
+    let same = ap length (c .before .before .before .branch-at3 .ensures) ∙ length-branch _ _ _ _ _ _ _ _ ∙ ap length (c .before .before .before .before .before .before .before .branch-at2 .ensures) ∙ length-branch _ _ _ _ _ _ _ _ ∙ ap length (c .before .before .before .before .before .before .before .before .before .before .before .branch-at .ensures) ∙ length-branch _ _ _ _ _ _ _ _ in
+    (omega arith, (omega arith, (omega arith, (omega arith, bs-stored _ _ _ _ (later (c .before .before .before .before .before .before .before .before .before .before .before .before .before .before) same)))))
 
 branch-at-requires-5 : tie.Need-branch-at-requires-5
-branch-at-requires-5 c κs = search needs
+branch-at-requires-5 c κs =
+    let same = ap length (c .before .before .before .branch-at4 .ensures) ∙ length-branch _ _ _ _ _ _ _ _ ∙ ap length (c .before .before .before .before .before .before .before .branch-at3 .ensures) ∙ length-branch _ _ _ _ _ _ _ _ ∙ ap length (c .before .before .before .before .before .before .before .before .before .before .before .branch-at2 .ensures) ∙ length-branch _ _ _ _ _ _ _ _ ∙ ap length (c .before .before .before .before .before .before .before .before .before .before .before .before .before .before .before .branch-at .ensures) ∙ length-branch _ _ _ _ _ _ _ _ in
+    (omega arith, (omega arith, (omega arith, (omega arith, bd-stored _ _ _ _ (later (c .before .before .before .before .before .before .before .before .before .before .before .before .before .before .before .before .before .before) same)))))
 
 returns : tie.Need-returns
 unfolding addBranchesStored

@@ -1,6 +1,7 @@
 -- `load_resolved::add_channel`: where no node is ground, the plain places.
 use mathlib.Core.Path.{sym, _∙_}
 use Rattle.load_resolved.proofs.Stored.{channel-plain}
+use Rattle.load_resolved.proofs.There.{channel-known}
 use borrow.Author.Needs.{needs}
 use Rattle.load_resolved.proofs.add_channel.Statement.{statement}
 use Rattle.load_resolved.proofs.add_channel.Tie as tie
@@ -12,7 +13,7 @@ add-channel-by-cell-requires : tie.Need-add-channel-by-cell-requires
 add-channel-by-cell-requires c κs = search needs
 
 add-channel-plain-requires : tie.Need-add-channel-plain-requires
-add-channel-plain-requires c κs = search needs
+add-channel-plain-requires c κs = channel-known _ (c .before .before .before .before .args .n) _ (sym (c .before .before .any-ground .ensures) ∙ c .before .if1 .left) (c .before .before .before .before .pre)
 
 same-length : tie.Need-same-length
 same-length c = search needs

@@ -1,15 +1,27 @@
 -- `load_resolved::add_channel_plain`: two rows in turn.
+use mathlib.Core.Path.{_≡_, sym, ap, _∙_, subst}
+use mathlib.Core.Bool.{true}
+use Prim.Native.Nat.{ℕ}
+use native.Mathlib.Omega.{arith}
+use lib.ListN.{length}
+use denote.Ref.{now}
 use Rattle.adding.specs.Adding.{addAll}
 use Rattle.load_resolved.specs.LoadResolved.{numbersFrom}
+use Rattle.load_resolved.specs.ByNumbers.{allBelow}
+use Rattle.load_resolved.proofs.Stored.{length-row}
+use Rattle.load_resolved.proofs.There.{first-row, second-row}
 use borrow.Author.Needs.{needs}
 use Rattle.load_resolved.proofs.add_channel_plain.Statement.{statement}
 use Rattle.load_resolved.proofs.add_channel_plain.Tie as tie
 
 row-plain-requires : tie.Need-row-plain-requires
-row-plain-requires c κs = search needs
+row-plain-requires c κs = (omega arith, first-row _ _ (c .before .before .pre))
 
 row-plain-requires-2 : tie.Need-row-plain-requires-2
-row-plain-requires-2 c κs = search needs
+row-plain-requires-2 c κs =
+    let s = c .before .before .before .before .before .before in
+    let same = ap length (c .before .before .before .row-plain .ensures) ∙ length-row _ _ _ _ _ _ _ _ _ in
+    (omega arith, second-row _ _ (subst (λ (n : ℕ). allBelow n (numbersFrom (now (s .args .cells)) 8 8) ≡ true) (sym same) (s .pre)))
 
 same-length : tie.Need-same-length
 same-length c = search needs

@@ -1,11 +1,14 @@
 -- `load_resolved::add_charges`: the numbers are those of the device's nodes.
-use mathlib.Core.Path.{ap, _∙_}
+use mathlib.Core.Path.{_≡_, sym, ap, _∙_, subst}
+use mathlib.Core.Bool.{true}
+use lib.ListN.{length}
 use denote.Ref.{now}
 use Rattle.stamps.specs.declared.ChargeBranches.{ChargeBranches}
 use Rattle.places.specs.Places.{nodesOf}
 use Rattle.places.specs.declared.Nodes.{Nodes}
 use Rattle.adding.specs.Adding.{addSources}
-use Rattle.load_resolved.specs.ByNumbers.{addBranchesStored, historySources}
+use Rattle.load_resolved.specs.ByNumbers.{conductingStored, addBranchesStored, historySources}
+use Rattle.load_resolved.proofs.There.{conducting-is}
 use borrow.Author.Needs.{needs}
 use Rattle.load_resolved.proofs.add_charges.Statement.{statement}
 use Rattle.load_resolved.proofs.add_charges.Tie as tie
@@ -17,7 +20,13 @@ charge-branches-requires : tie.Need-charge-branches-requires
 charge-branches-requires c κs = search needs
 
 add-branches-requires : tie.Need-add-branches-requires
-add-branches-requires c κs = search needs
+add-branches-requires c κs =
+    let s = c .before .before .before .before .before in
+    let w = now (s .args .cells) in
+    let m = length (now (s .args .values)) in
+    subst (λ (n : Nodes). conductingStored m n w (c .before .charge-branches .result) ≡ true) (sym (c .before .before .indices .ensures))
+    (subst (λ (b : ChargeBranches). conductingStored m (nodesOf (s .args .d .terminals)) w b ≡ true) (sym (c .before .charge-branches .ensures))
+    (conducting-is m (nodesOf (s .args .d .terminals)) w (s .args .d) (s .args .alpha) ∙ s .pre))
 
 add-histories-requires : tie.Need-add-histories-requires
 add-histories-requires c κs = search needs

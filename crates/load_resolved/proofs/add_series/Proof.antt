@@ -5,7 +5,7 @@ use Rattle.load_resolved.proofs.add_series.Statement.{statement}
 use Rattle.load_resolved.proofs.add_series.Tie as tie
 
 add-pair-requires : tie.Need-add-pair-requires
-add-pair-requires c κs = search needs
+add-pair-requires c κs = c .before .before .before .pre
 
 add-no-conductance-requires : tie.Need-add-no-conductance-requires
 add-no-conductance-requires c κs = search needs

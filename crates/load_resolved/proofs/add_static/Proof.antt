@@ -1,5 +1,7 @@
 -- `load_resolved::add_static`: the numbers are those of the device's nodes.
-use mathlib.Core.Path.{ap, _∙_}
+use mathlib.Core.Path.{_≡_, sym, ap, _∙_, subst}
+use mathlib.Core.Bool.{true}
+use lib.ListN.{length}
 use denote.Ref.{now}
 use Rattle.stamps.specs.Stamps.{jacPairsOf, jacValuesOf}
 use Rattle.stamps.specs.declared.Residual.{Residual}
@@ -8,6 +10,7 @@ use Rattle.places.specs.declared.Nodes.{Nodes}
 use Rattle.adding.specs.Adding.{addSources, offsetSources}
 use Rattle.assembly.specs.Assembly.{paired}
 use Rattle.load_resolved.specs.LoadResolved.{numbersFrom, addStored}
+use Rattle.load_resolved.specs.ByNumbers.{pairsStored}
 use borrow.Author.Needs.{needs}
 use Rattle.load_resolved.proofs.add_static.Statement.{statement}
 use Rattle.load_resolved.proofs.add_static.Tie as tie
@@ -16,7 +19,9 @@ indices-requires : tie.Need-indices-requires
 indices-requires c κs = search needs
 
 add-jacobian-requires : tie.Need-add-jacobian-requires
-add-jacobian-requires c κs = search needs
+add-jacobian-requires c κs =
+    let s = c .before .before .before .before in
+    subst (λ (n : Nodes). pairsStored (length (now (s .args .values))) (jacPairsOf (terminalsAt n)) (numbersFrom (now (s .args .cells)) 8 24) ≡ true) (sym (c .before .indices .ensures)) (s .pre)
 
 residual-values-requires : tie.Need-residual-values-requires
 residual-values-requires c κs = search needs

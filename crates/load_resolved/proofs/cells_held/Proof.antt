@@ -4,7 +4,7 @@ use mathlib.Core.Bool.{Bool, true, false, cond}
 use denote.Ref.{now}
 use borrow.Author.Tests.{not-true, not-false}
 use Rattle.load_resolved.specs.ByNumbers.{held}
-use Rattle.load_resolved.proofs.Below.{pairs-held, branches-held}
+use Rattle.load_resolved.proofs.Below.{no-pair-missed, no-branch-missed}
 use borrow.Author.Needs.{needs}
 use Rattle.load_resolved.proofs.cells_held.Statement.{statement}
 use Rattle.load_resolved.proofs.cells_held.Tie as tie
@@ -28,7 +28,7 @@ unfolding held
 returns-2 c =
     let s = c .before .before .before .before in
     let below = sym (c .before .all-below .ensures) ∙ c .if2 .taken in
-    rw (← c .before .before .before .nodes-are .ensures, not-false (c .before .before .before .nodes-are .result) (c .before .before .if1 .left), pairs-held (s .args .len) (now (s .args .cells)) below _, branches-held (s .args .len) (now (s .args .cells)) below (s .args .n) (s .args .q)) (cond-same (s .args .transient))
+    rw (← c .before .before .before .nodes-are .ensures, not-false (c .before .before .before .nodes-are .result) (c .before .before .if1 .left), no-pair-missed (s .args .len) (now (s .args .cells)) below _, no-branch-missed (s .args .len) (now (s .args .cells)) below (s .args .n) (s .args .q)) (cond-same (s .args .transient))
 
 pairs-there-requires : tie.Need-pairs-there-requires
 pairs-there-requires c κs = search needs
