@@ -238,7 +238,7 @@ fn early_row(
 }
 
 // The row that refuses a load into a right-hand side of so many rows and so many values, 0 where none does.
-fn resolved_row(
+pub fn resolved_row(
     d: Mosfet1,
     kind: LoadKind,
     inside: bool,
@@ -610,7 +610,7 @@ fn charge_branches(d: Mosfet1, alpha: f64) -> ChargeBranches
 }
 
 // `load_jacobian` and `load_residual`; the rows were asked for before.
-fn add_static(d: Mosfet1, cells: &[usize; 37], rhs: &mut [f64], values: &mut [f64])
+pub fn add_static(d: Mosfet1, cells: &[usize; 37], rhs: &mut [f64], values: &mut [f64])
     ensures { λ r. ⌜ (now (values .exit) ≡ addStored (paired (jacPairsOf (terminalsAt (nodesOf (d .terminals)))) (jacValuesOf d)) (numbersFrom (now (cells .entry)) 8 24) (now (values .entry)))
         × (now (rhs .exit) ≡ addSources (offsetSources (terminalsAt (nodesOf (d .terminals))) (residualOf d)) (now (rhs .entry))) ⌝ }
 {
@@ -621,7 +621,7 @@ fn add_static(d: Mosfet1, cells: &[usize; 37], rhs: &mut [f64], values: &mut [f6
 }
 
 // What `load_jacobian_tran` and `load_residual_tran` add to that: the charge branches.
-fn add_charges(d: Mosfet1, alpha: f64, cells: &[usize; 37], rhs: &mut [f64], values: &mut [f64])
+pub fn add_charges(d: Mosfet1, alpha: f64, cells: &[usize; 37], rhs: &mut [f64], values: &mut [f64])
     ensures { λ r. ⌜ (now (values .exit) ≡ addBranchesStored (nodesOf (d .terminals)) (now (cells .entry)) (chargeBranchesOf d alpha) (now (values .entry)))
         × (now (rhs .exit) ≡ addSources (historySources (nodesOf (d .terminals)) (chargeBranchesOf d alpha)) (now (rhs .entry))) ⌝ }
 {
