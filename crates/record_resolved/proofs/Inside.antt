@@ -13,7 +13,7 @@ use Rattle.loading.specs.Loading.{nodesOutside}
 use Rattle.record.specs.declared.NodeRecord.{NodeRecord}
 use Rattle.record.specs.declared.TerminalsRecord.{TerminalsRecord}
 use Rattle.from_record.specs.Devices.{nodeFrom, terminalsFrom}
-use Rattle.record_resolved.specs.Inside.{indicesBelow}
+use Rattle.record_resolved.specs.Steps.{indicesBelow}
 
 both-hold : (a b : Bool) → (a && b) ≡ true → (a ≡ true) × (b ≡ true)
 both-hold true b e = (refl, e)

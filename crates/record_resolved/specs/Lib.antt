@@ -1,2 +1,2 @@
 pub mod Resolved
-pub mod Inside
+pub mod Steps

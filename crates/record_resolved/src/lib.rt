@@ -3,10 +3,11 @@ use record::DeviceRecord;
 use record::TerminalsRecord;
 ghost use Prim.Native.Nat.{_≤_};
 ghost use mathlib.Core.Path.{_≡_};
+ghost use lib.ListN.{length};
 ghost use Rattle.device.specs.Refusals.{number, valuesOr};
 ghost use Rattle.resolve.specs.Resolve.{noCells};
-ghost use Rattle.record_resolved.specs.Resolved.{resolveCall, loadResolvedCall, resolvedSide, resolvedMatrix};
-ghost use Rattle.record_resolved.specs.Inside.{indicesBelow};
+ghost use Rattle.record_resolved.specs.Resolved.{resolveCall};
+ghost use Rattle.record_resolved.specs.Steps.{indicesBelow, resolvedNumber, staticSide, staticMatrix, chargedSide, chargedMatrix};
 
 // The cells, and the number of the refusal; a refused call answers zeros.
 #[repr(C)]
@@ -116,18 +117,18 @@ fn smaller(a: usize, b: usize) -> usize
     b
 }
 
-// A load by cells; `transient` is 0 or 1. Answers the number of the refusal, 0 where both slices were loaded.
-pub fn load_resolved(
+// The row that refuses a load by cells into so many rows and so many values, 0 where none does; 100 where a tag is unknown. A load is
+// three steps, this and the two below, so that its caller can copy the record for each: the compiler then reads of it what a step
+// needs when it needs it, and holds less at once.
+pub fn row(
     r: DeviceRecord,
     transient: u64,
     alpha: f64,
     cells: &[usize; 37],
-    rhs: &mut [f64],
-    values: &mut [f64],
+    rhs: usize,
+    values: usize,
 ) -> u64
-    ensures { λ o. ⌜ (o ≡ loadResolvedCall r transient alpha (now (cells .entry)) (now (rhs .entry)) (now (values .entry)))
-        × ((now (rhs .exit) ≡ resolvedSide r transient alpha (now (cells .entry)) (now (rhs .entry)) (now (values .entry)))
-        × (now (values .exit) ≡ resolvedMatrix r transient alpha (now (cells .entry)) (now (rhs .entry)) (now (values .entry)))) ⌝ }
+    ensures { λ o. ⌜ o ≡ resolvedNumber r transient alpha (now (cells .entry)) rhs values ⌝ }
 {
     if !from_record::good_tags_at_once(r) {
         return 100;
@@ -137,7 +138,49 @@ pub fn load_resolved(
     }
     let d = from_record::device_from(r);
     let kind = record_loading::kind_from(transient, alpha);
-    let inside = indices_below(r.terminals, smaller(rhs.len(), cells[6]));
-    let a = load_resolved::load_known(d, kind, inside, cells, rhs, values);
-    record_loading::load_number(a)
+    let inside = indices_below(r.terminals, smaller(rhs, cells[6]));
+    record::wide(load_resolved::resolved_row(d, kind, inside, cells, rhs, values))
+}
+
+// The channel, the resistances and the junctions, where no row refuses. `transient` and `alpha` are asked for so that `row` can be said
+// to be the load's; nothing is compiled of them.
+pub fn add_static(
+    row: u64,
+    r: DeviceRecord,
+    transient: u64,
+    alpha: f64,
+    cells: &[usize; 37],
+    rhs: &mut [f64],
+    values: &mut [f64],
+)
+    requires { ⌜ row ≡ resolvedNumber r transient alpha (now cells) (length (now rhs)) (length (now values)) ⌝ }
+    ensures { λ o. ⌜ (now (rhs .exit) ≡ staticSide row r (now (rhs .entry)))
+        × (now (values .exit) ≡ staticMatrix row r (now (cells .entry)) (now (values .entry))) ⌝ }
+{
+    if row == 0 {
+        let d = from_record::device_from(r);
+        load_resolved::add_static(d, cells, rhs, values);
+    }
+}
+
+// The charge branches, where no row refuses and the load is transient.
+pub fn add_charges(
+    row: u64,
+    r: DeviceRecord,
+    transient: u64,
+    alpha: f64,
+    cells: &[usize; 37],
+    rhs: &mut [f64],
+    values: &mut [f64],
+)
+    requires { ⌜ row ≡ resolvedNumber r transient alpha (now cells) (length (now rhs)) (length (now values)) ⌝ }
+    ensures { λ o. ⌜ (now (rhs .exit) ≡ chargedSide row r transient alpha (now (rhs .entry)))
+        × (now (values .exit) ≡ chargedMatrix row r transient alpha (now (cells .entry)) (now (values .entry))) ⌝ }
+{
+    if row == 0 {
+        if transient == 1 {
+            let d = from_record::device_from(r);
+            load_resolved::add_charges(d, alpha, cells, rhs, values);
+        }
+    }
 }

@@ -1,7 +1,7 @@
 -- `record_resolved::indices_below`: the first index that is not below decides.
 use native.Mathlib.Omega.{arith}
 use borrow.Author.Tests.{lt-ltb, le-ltb}
-use Rattle.record_resolved.specs.Inside.{indicesBelow}
+use Rattle.record_resolved.specs.Steps.{indicesBelow}
 use Rattle.record_resolved.proofs.indices_below.Statement.{statement}
 use Rattle.record_resolved.proofs.indices_below.Tie as tie
 

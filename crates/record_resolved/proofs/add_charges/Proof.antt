@@ -1,0 +1,54 @@
+-- `record_resolved::add_charges`: where the row is 0 and the load is transient, the device's own.
+use mathlib.Core.Path.{_∙_}
+use borrow.Author.Tests.{eq-eqb, ne-eqb}
+use Rattle.record_resolved.specs.Steps.{chargeSources, chargeValues, chargedSide, chargedMatrix}
+use borrow.Author.Needs.{needs}
+use Rattle.record_resolved.proofs.add_charges.Statement.{statement}
+use Rattle.record_resolved.proofs.add_charges.Tie as tie
+
+device-from-requires : tie.Need-device-from-requires
+device-from-requires c κs = search needs
+
+add-charges-requires : tie.Need-add-charges-requires
+add-charges-requires c κs = search needs
+
+same-length : tie.Need-same-length
+same-length c = search needs
+
+same-length-2 : tie.Need-same-length-2
+same-length-2 c = search needs
+
+returns : tie.Need-returns
+unfolding chargeSources chargeValues chargedSide chargedMatrix
+returns c =
+    let zero = eq-eqb _ 0 (c .before .before .before .before .before .before .before .before .before .if1 .taken) in
+    let one = eq-eqb _ 1 (c .before .before .before .before .before .before .before .before .if2 .taken) in
+    let d = c .before .before .before .before .before .before .before .device-from .ensures in (
+      c .before .before .before .before .add-charges .ensures .1 ∙ rw (zero, one, d),
+      c .before .before .before .before .add-charges .ensures .0 ∙ rw (zero, one, d),
+    )
+
+returns-2 : tie.Need-returns-2
+unfolding chargedSide chargedMatrix
+returns-2 c =
+    let zero = eq-eqb _ 0 (c .before .if1 .taken) in
+    let static = ne-eqb _ 1 (c .if2 .left) in
+    (rw (zero, static), rw (zero, static))
+
+returns-3 : tie.Need-returns-3
+unfolding chargedSide chargedMatrix
+returns-3 c =
+    let refused = ne-eqb _ 0 (c .if1 .left) in
+    (rw refused, rw refused)
+
+pub add-charges-spec : {M : Type 1} → statement M
+add-charges-spec =
+    tie.close
+    (tie.spec
+    device-from-requires
+    add-charges-requires
+    same-length
+    same-length-2
+    returns
+    returns-2
+    returns-3)

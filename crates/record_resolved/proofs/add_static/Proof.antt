@@ -1,0 +1,45 @@
+-- `record_resolved::add_static`: where the row is 0, the device's own.
+use mathlib.Core.Path.{_∙_}
+use borrow.Author.Tests.{eq-eqb, ne-eqb}
+use Rattle.record_resolved.specs.Steps.{staticSources, staticValues, staticSide, staticMatrix}
+use borrow.Author.Needs.{needs}
+use Rattle.record_resolved.proofs.add_static.Statement.{statement}
+use Rattle.record_resolved.proofs.add_static.Tie as tie
+
+device-from-requires : tie.Need-device-from-requires
+device-from-requires c κs = search needs
+
+add-static-requires : tie.Need-add-static-requires
+add-static-requires c κs = search needs
+
+same-length : tie.Need-same-length
+same-length c = search needs
+
+same-length-2 : tie.Need-same-length-2
+same-length-2 c = search needs
+
+returns : tie.Need-returns
+unfolding staticSources staticValues staticSide staticMatrix
+returns c =
+    let zero = eq-eqb _ 0 (c .before .before .before .before .before .before .before .before .if1 .taken) in
+    let d = c .before .before .before .before .before .before .before .device-from .ensures in (
+      c .before .before .before .before .add-static .ensures .1 ∙ rw (zero, d),
+      c .before .before .before .before .add-static .ensures .0 ∙ rw (zero, d),
+    )
+
+returns-2 : tie.Need-returns-2
+unfolding staticSide staticMatrix
+returns-2 c =
+    let refused = ne-eqb _ 0 (c .if1 .left) in
+    (rw refused, rw refused)
+
+pub add-static-spec : {M : Type 1} → statement M
+add-static-spec =
+    tie.close
+    (tie.spec
+    device-from-requires
+    add-static-requires
+    same-length
+    same-length-2
+    returns
+    returns-2)
