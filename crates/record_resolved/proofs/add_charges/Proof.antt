@@ -1,16 +1,27 @@
 -- `record_resolved::add_charges`: where the row is 0 and the load is transient, the device's own.
-use mathlib.Core.Path.{_∙_}
+use Prim.Native.Nat.{_<_, _^_}
+use mathlib.Core.Path.{sym, _∙_}
+use native.Mathlib.Omega.{arith}
+use lib.ListN.{length}
+use denote.Ref.{now}
 use borrow.Author.Tests.{eq-eqb, ne-eqb}
 use Rattle.record_resolved.specs.Steps.{chargeSources, chargeValues, chargedSide, chargedMatrix}
+use Rattle.record_resolved.proofs.Known.{branches-known}
 use borrow.Author.Needs.{needs}
 use Rattle.record_resolved.proofs.add_charges.Statement.{statement}
 use Rattle.record_resolved.proofs.add_charges.Tie as tie
+
+room : (s : tie.Start) → length (now (s .args .rhs)) < 2 ^ 64
+room s = omega (arith, s .good .1 .1 .1 .1 .1 .0 .1)
 
 device-from-requires : tie.Need-device-from-requires
 device-from-requires c κs = search needs
 
 add-charges-requires : tie.Need-add-charges-requires
-add-charges-requires c κs = search needs
+add-charges-requires c κs =
+    let s = c .before .before .before .before .before .before .before in
+    rw (c .before .before .device-from .ensures)
+    (branches-known (s .args .r) (s .args .transient) (s .args .alpha) (now (s .args .cells)) (length (now (s .args .rhs))) _ (room s) (c .before .before .before .if2 .taken) (sym (s .pre) ∙ c .before .before .before .before .if1 .taken))
 
 same-length : tie.Need-same-length
 same-length c = search needs

@@ -1,16 +1,27 @@
 -- `record_resolved::add_static`: where the row is 0, the device's own.
-use mathlib.Core.Path.{_∙_}
+use Prim.Native.Nat.{_<_, _^_}
+use mathlib.Core.Path.{sym, _∙_}
+use native.Mathlib.Omega.{arith}
+use lib.ListN.{length}
+use denote.Ref.{now}
 use borrow.Author.Tests.{eq-eqb, ne-eqb}
 use Rattle.record_resolved.specs.Steps.{staticSources, staticValues, staticSide, staticMatrix}
+use Rattle.record_resolved.proofs.Known.{pairs-known}
 use borrow.Author.Needs.{needs}
 use Rattle.record_resolved.proofs.add_static.Statement.{statement}
 use Rattle.record_resolved.proofs.add_static.Tie as tie
+
+room : (s : tie.Start) → length (now (s .args .rhs)) < 2 ^ 64
+room s = omega (arith, s .good .1 .1 .1 .1 .1 .0 .1)
 
 device-from-requires : tie.Need-device-from-requires
 device-from-requires c κs = search needs
 
 add-static-requires : tie.Need-add-static-requires
-add-static-requires c κs = search needs
+add-static-requires c κs =
+    let s = c .before .before .before .before .before .before in
+    rw (c .before .before .device-from .ensures)
+    (pairs-known (s .args .r) (s .args .transient) (s .args .alpha) (now (s .args .cells)) (length (now (s .args .rhs))) _ (room s) (sym (s .pre) ∙ c .before .before .before .if1 .taken))
 
 same-length : tie.Need-same-length
 same-length c = search needs
