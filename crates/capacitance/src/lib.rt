@@ -187,6 +187,6 @@ pub fn q_depl(g: Grading, bot: f64, sw: f64, v: f64) -> f64
         let x = two_powers(1.0 - v / pb_t, 1.0 - mj, 1.0 - mjsw);
         return charge(pb_t, bottom, mj, x.first) + charge(pb_t, sidewall, mjsw, x.second);
     }
-    let d = cj_and_q_depl(fc, pb_t, mj, mjsw, bottom, sidewall, v);
+    let d = by_parts(fc, pb_t, mj, mjsw, bottom, sidewall, v);
     d.q
 }

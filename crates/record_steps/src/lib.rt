@@ -228,12 +228,11 @@ pub fn read_voltages(r: DeviceRecord, x: &[f64], k: ConditionsRecord) -> Reading
         return refused_reading(100);
     }
     let d = from_record::device_from(r);
-    let conditions = conditions_from(k);
     let n = x.len();
     if indices(r.terminals) < n {
-        return read_inside(d, r.terminals, x, conditions);
+        return read_inside(d, r.terminals, x, conditions_from(k));
     }
-    read(d, x, conditions)
+    read(d, x, conditions_from(k))
 }
 
 // What changes, at what was read.

@@ -39,12 +39,12 @@ returns-4 c =
     let t = x .before in
     rw (c .charge2 .ensures, c .before .charge .ensures, r .0, r .1, t .before .before .if1 .left, t .before .if3 .left, t .if4 .taken)
 
-cj-and-q-depl-requires : tie.Need-cj-and-q-depl-requires
-cj-and-q-depl-requires c κs = search needs
+by-parts-requires : tie.Need-by-parts-requires
+by-parts-requires c κs = search needs
 
 returns-5 : tie.Need-returns-5
 unfolding qDeplOf
-returns-5 c = c .cj-and-q-depl .ensures .1
+returns-5 c = c .by-parts .ensures .1
 
 pub q-depl-spec : {M : Type 1} → statement M
 q-depl-spec =
@@ -59,5 +59,5 @@ q-depl-spec =
     charge-requires
     charge-requires-2
     returns-4
-    cj-and-q-depl-requires
+    by-parts-requires
     returns-5)

@@ -37,11 +37,11 @@ returns-2 c = rw (c .refused-reading2 .ensures, ← c .before .before .before .b
 device-from-requires : tie.Need-device-from-requires
 device-from-requires c κs = search needs
 
-conditions-from-requires : tie.Need-conditions-from-requires
-conditions-from-requires c κs = search needs
-
 indices-requires : tie.Need-indices-requires
 indices-requires c κs = search needs
+
+conditions-from-requires : tie.Need-conditions-from-requires
+conditions-from-requires c κs = search needs
 
 read-inside-requires : tie.Need-read-inside-requires
 unfolding deviceFrom
@@ -49,8 +49,8 @@ read-inside-requires c κs =
     let s = c .before .before .before .before .before .before .before .before .before in
     let t = s .args .r .terminals in
     let n = length (now (s .args .x)) in
-    let h = c .before .indices .ensures in
-    let below : c .before .indices .result < n = c .if3 .taken in
+    let h = c .before .before .indices .ensures in
+    let below : c .before .before .indices .result < n = c .before .if3 .taken in
     let a : t .«drain_ext» .index < n = omega (arith, h .0, below) in
     let b : t .«source_ext» .index < n = omega (arith, h .1 .0, below) in
     let d : t .drain .index < n = omega (arith, h .1 .1 .0, below) in
@@ -64,13 +64,16 @@ unfolding readingOf
 returns-3 c =
     rw (
       c .read-inside .ensures,
-      c .before .before .before .conditions-from .ensures,
+      c .before .conditions-from .ensures,
       c .before .before .before .before .device-from .ensures,
       ← c .before .before .before .before .before .before .before .before .good-tags-at-once .ensures,
       not-false (c .before .before .before .before .before .before .before .before .good-tags-at-once .result) (c .before .before .before .before .before .before .before .if1 .left),
       ← c .before .before .before .before .before .before .good-conditions .ensures,
       not-false (c .before .before .before .before .before .before .good-conditions .result) (c .before .before .before .before .before .if2 .left),
     )
+
+conditions-from-requires-2 : tie.Need-conditions-from-requires-2
+conditions-from-requires-2 c κs = search needs
 
 read-requires : tie.Need-read-requires
 read-requires c κs = search needs
@@ -80,7 +83,7 @@ unfolding readingOf
 returns-4 c =
     rw (
       c .read .ensures,
-      c .before .before .before .conditions-from .ensures,
+      c .before .conditions-from2 .ensures,
       c .before .before .before .before .device-from .ensures,
       ← c .before .before .before .before .before .before .before .before .good-tags-at-once .ensures,
       not-false (c .before .before .before .before .before .before .before .before .good-tags-at-once .result) (c .before .before .before .before .before .before .before .if1 .left),
@@ -89,4 +92,4 @@ returns-4 c =
     )
 
 pub read-voltages-spec : {M : Type 1} → statement M
-read-voltages-spec = tie.close (tie.spec good-tags-at-once-requires refused-reading-requires returns good-conditions-requires refused-reading-requires-2 returns-2 device-from-requires conditions-from-requires indices-requires read-inside-requires returns-3 read-requires returns-4)
+read-voltages-spec = tie.close (tie.spec good-tags-at-once-requires refused-reading-requires returns good-conditions-requires refused-reading-requires-2 returns-2 device-from-requires indices-requires conditions-from-requires read-inside-requires returns-3 conditions-from-requires-2 read-requires returns-4)
