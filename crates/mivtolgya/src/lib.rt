@@ -203,7 +203,8 @@ pub extern "C" fn mivtolgya_resolve(
     record_resolved::resolve(device, columns, offsets, lengths)
 }
 
-// A load by the cells that `mivtolgya_resolve` answered. The record and the cells are only read.
+// A load by the cells that `mivtolgya_resolve` answered. The record and the cells are only read. Each step has a copy of the record of its
+// own, of which the compiler reads what the step needs when it needs it; the last two do nothing where a row refuses.
 #[no_mangle]
 pub extern "C" fn mivtolgya_load_resolved(
     device: &DeviceRecord,
@@ -217,6 +218,11 @@ pub extern "C" fn mivtolgya_load_resolved(
         × ((now (rhs .exit) ≡ resolvedSide (now (device .entry)) transient alpha (now (cells .entry)) (now (rhs .entry)) (now (values .entry)))
         × (now (values .exit) ≡ resolvedMatrix (now (device .entry)) transient alpha (now (cells .entry)) (now (rhs .entry)) (now (values .entry)))) ⌝ }
 {
-    let r = *device;
-    record_resolved::load_resolved(r, transient, alpha, cells, rhs, values)
+    let asked = *device;
+    let row = record_resolved::row(asked, transient, alpha, cells, rhs.len(), values.len());
+    let held = *device;
+    record_resolved::add_static(row, held, transient, alpha, cells, rhs, values);
+    let charged = *device;
+    record_resolved::add_charges(row, charged, transient, alpha, cells, rhs, values);
+    row
 }

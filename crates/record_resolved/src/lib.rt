@@ -119,7 +119,7 @@ fn smaller(a: usize, b: usize) -> usize
 
 // The row that refuses a load by cells into so many rows and so many values, 0 where none does; 100 where a tag is unknown. A load is
 // three steps, this and the two below, so that its caller can copy the record for each: the compiler then reads of it what a step
-// needs when it needs it, and holds less at once.
+// needs when it needs it.
 pub fn row(
     r: DeviceRecord,
     transient: u64,
