@@ -24,6 +24,7 @@ use temperature::Kelvin;
 ghost use mathlib.Core.Path.{_≡_};
 ghost use lib.Dec.{leb};
 ghost use Rattle.from_record.specs.Devices.{nodeFrom, givenFrom, methodFrom, stageFrom, cardFrom, terminalsFrom, historyFrom, historiesFrom, deviceFrom};
+ghost use Rattle.from_record.specs.Inside.{indicesOr};
 ghost use Rattle.from_record.specs.Tags.{goodTerminals, goodHistories, goodStage, goodTags};
 
 pub fn node_from(r: NodeRecord) -> NodeId
@@ -360,4 +361,17 @@ pub fn good_tags_at_once(d: DeviceRecord) -> bool
         return false;
     }
     good_stage(d.stage)
+}
+
+// The OR of the six nodes' indices, ground's among them: where it is below a number, so is each of them, and no node is beyond. That is
+// one test in place of six.
+pub fn indices(t: TerminalsRecord) -> usize
+    ensures { λ r. ⌜ r ≡ indicesOr t ⌝ }
+{
+    t.drain_ext.index
+        | t.source_ext.index
+        | t.drain.index
+        | t.gate.index
+        | t.source.index
+        | t.bulk.index
 }

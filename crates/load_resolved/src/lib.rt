@@ -238,8 +238,10 @@ fn early_row(
 }
 
 // The row that refuses a load into a right-hand side of so many rows and so many values, 0 where none does. `inside` says that the
-// caller knows that row 8 does not apply; where it is false, nothing is known, and the nodes are asked.
+// caller knows that row 8 does not apply; where it is false, nothing is known, and the nodes are asked. The nodes' numbers n are the
+// caller's, who may have a shorter way to them.
 pub fn resolved_row(
+    n: Nodes,
     d: Mosfet1,
     kind: LoadKind,
     inside: bool,
@@ -247,7 +249,7 @@ pub fn resolved_row(
     rhs: usize,
     values: usize,
 ) -> u8
-    requires { ⌜ (inside ≡ true → nodesOutside (d .stage) (d .terminals) rhs (getD (now cells) 6 0) ≡ false) ⌝ }
+    requires { ⌜ (n ≡ nodesOf (d .terminals)) × (inside ≡ true → nodesOutside (d .stage) (d .terminals) rhs (getD (now cells) 6 0) ≡ false) ⌝ }
     ensures { λ r. ⌜ r ≡ resolvedRowOf d kind (now (cells .entry)) rhs values ⌝ }
 {
     let rows = cells[6];
@@ -256,7 +258,6 @@ pub fn resolved_row(
     if row != 0 {
         return row;
     }
-    let n = places::indices(d.terminals);
     let transient = is_transient(kind);
     if !cells_held(n, cells, values, d.charges, transient) {
         return 13;
@@ -628,24 +629,29 @@ fn charge_branches(d: Mosfet1, alpha: f64) -> ChargeBranches
 }
 
 // `load_jacobian` and `load_residual`. The rows were asked for before, so every place that counts is there.
-pub fn add_static(d: Mosfet1, cells: &[usize; 37], rhs: &mut [f64], values: &mut [f64])
-    requires { ⌜ pairsStored (length (now values)) (jacPairsOf (terminalsAt (nodesOf (d .terminals)))) (numbersFrom (now cells) 8 24) ≡ true ⌝ }
+pub fn add_static(n: Nodes, d: Mosfet1, cells: &[usize; 37], rhs: &mut [f64], values: &mut [f64])
+    requires { ⌜ (n ≡ nodesOf (d .terminals)) × (pairsStored (length (now values)) (jacPairsOf (terminalsAt (nodesOf (d .terminals)))) (numbersFrom (now cells) 8 24) ≡ true) ⌝ }
     ensures { λ r. ⌜ (now (values .exit) ≡ addStored (paired (jacPairsOf (terminalsAt (nodesOf (d .terminals)))) (jacValuesOf d)) (numbersFrom (now (cells .entry)) 8 24) (now (values .entry)))
         × (now (rhs .exit) ≡ addSources (offsetSources (terminalsAt (nodesOf (d .terminals))) (residualOf d)) (now (rhs .entry))) ⌝ }
 {
-    let n = places::indices(d.terminals);
     add_jacobian(values, n, cells, d);
     let o = stamps::residual_values(d);
     adding::add_offsets(rhs, n, o);
 }
 
 // What `load_jacobian_tran` and `load_residual_tran` add to that: the charge branches.
-pub fn add_charges(d: Mosfet1, alpha: f64, cells: &[usize; 37], rhs: &mut [f64], values: &mut [f64])
-    requires { ⌜ branchesStored (length (now values)) (nodesOf (d .terminals)) (now cells) (d .charges) ≡ true ⌝ }
+pub fn add_charges(
+    n: Nodes,
+    d: Mosfet1,
+    alpha: f64,
+    cells: &[usize; 37],
+    rhs: &mut [f64],
+    values: &mut [f64],
+)
+    requires { ⌜ (n ≡ nodesOf (d .terminals)) × (branchesStored (length (now values)) (nodesOf (d .terminals)) (now cells) (d .charges) ≡ true) ⌝ }
     ensures { λ r. ⌜ (now (values .exit) ≡ addBranchesStored (nodesOf (d .terminals)) (now (cells .entry)) (chargeBranchesOf d alpha) (now (values .entry)))
         × (now (rhs .exit) ≡ addSources (historySources (nodesOf (d .terminals)) (chargeBranchesOf d alpha)) (now (rhs .entry))) ⌝ }
 {
-    let n = places::indices(d.terminals);
     let b = charge_branches(d, alpha);
     add_branches(values, n, cells, b);
     add_histories(rhs, n, b);
@@ -661,14 +667,15 @@ pub fn load_resolved(
 ) -> LoadAnswer
     ensures { λ r. ⌜ LoadedResolved d kind (now (cells .entry)) (now (rhs .entry)) (now (values .entry)) (outcomeOfLoad r) (now (rhs .exit)) (now (values .exit)) ⌝ }
 {
-    let row = resolved_row(d, kind, false, cells, rhs.len(), values.len());
+    let n = places::indices(d.terminals);
+    let row = resolved_row(n, d, kind, false, cells, rhs.len(), values.len());
     if row != 0 {
         return LoadAnswer::Refused(row);
     }
-    add_static(d, cells, rhs, values);
+    add_static(n, d, cells, rhs, values);
     match kind {
         LoadKind::DirectCurrent => {}
-        LoadKind::Transient(alpha) => add_charges(d, alpha, cells, rhs, values),
+        LoadKind::Transient(alpha) => add_charges(n, d, alpha, cells, rhs, values),
     }
     LoadAnswer::Done
 }

@@ -1,3 +1,4 @@
 pub mod Inside
 pub mod Loaded
 pub mod Known
+pub mod Numbers

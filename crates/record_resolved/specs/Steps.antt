@@ -1,8 +1,8 @@
 -- The steps of the code. A reader of the calls needs none of it.
 use Prim.Native.Nat.{ℕ}
-use mathlib.Core.Bool.{Bool, cond, _&&_}
+use mathlib.Core.Bool.{cond, _&&_}
 use mathlib.Core.List.{List}
-use lib.Dec.{eqb, ltb}
+use lib.Dec.{eqb}
 use lib.Ieee.{Float}
 use Rattle.device.specs.declared.Mosfet1.{Mosfet1}
 use Rattle.stamps.specs.Stamps.{jacPairsOf, jacValuesOf, residualOf, chargeBranchesOf}
@@ -12,15 +12,8 @@ use Rattle.assembly.specs.Assembly.{paired}
 use Rattle.load_resolved.specs.LoadResolved.{numbersFrom, addStored, resolvedRowOf}
 use Rattle.load_resolved.specs.ByNumbers.{addBranchesStored, historySources}
 use Rattle.record.specs.declared.DeviceRecord.{DeviceRecord}
-use Rattle.record.specs.declared.TerminalsRecord.{TerminalsRecord}
 use Rattle.from_record.specs.Devices.{deviceFrom}
 use Rattle.record_loading.specs.Load.{kindFrom, goodLoad}
-
--- the record's own indices against a number of rows, without the tags: the index of each of the six nodes is below n
-unfoldable pub indicesBelow : TerminalsRecord → ℕ → Bool
-indicesBelow t n =
-    ltb (t .«drain_ext» .index) n && ltb (t .«source_ext» .index) n && ltb (t .drain .index) n
-    && ltb (t .gate .index) n && ltb (t .source .index) n && ltb (t .bulk .index) n
 
 -- a load's answer into so many rows and so many values
 unfoldable pub resolvedNumber : DeviceRecord → ℕ → Float → List ℕ → ℕ → ℕ → ℕ

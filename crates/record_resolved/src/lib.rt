@@ -1,13 +1,20 @@
 // Looking up the cells of a device that is a record, and loading it by them.
+use places::Nodes;
 use record::DeviceRecord;
 use record::TerminalsRecord;
+use std::num::wrapping_sub_u64;
 ghost use Prim.Native.Nat.{_≤_};
 ghost use mathlib.Core.Path.{_≡_};
+ghost use mathlib.Core.Bool.{true};
+ghost use lib.Dec.{leb};
 ghost use lib.ListN.{length};
+ghost use Rattle.places.specs.Places.{indexOf, nodesOf};
+ghost use Rattle.from_record.specs.Devices.{nodeFrom, terminalsFrom};
+ghost use Rattle.from_record.specs.Tags.{goodTerminals};
 ghost use Rattle.device.specs.Refusals.{number, valuesOr};
 ghost use Rattle.resolve.specs.Resolve.{noCells};
 ghost use Rattle.record_resolved.specs.Resolved.{resolveCall};
-ghost use Rattle.record_resolved.specs.Steps.{indicesBelow, resolvedNumber, staticSide, staticMatrix, chargedSide, chargedMatrix};
+ghost use Rattle.record_resolved.specs.Steps.{resolvedNumber, staticSide, staticMatrix, chargedSide, chargedMatrix};
 
 // The cells, and the number of the refusal; a refused call answers zeros.
 #[repr(C)]
@@ -85,27 +92,28 @@ pub fn resolve(
     }
 }
 
-// The index of each of the six nodes is below n: then no node is outside n rows, whichever are ground. Asking the record's own fields is
-// much shorter than asking the nodes. Ground's index is 0 as the library writes it; where it is another, the nodes are asked.
-fn indices_below(t: TerminalsRecord, n: usize) -> bool
-    ensures { λ b. ⌜ b ≡ indicesBelow t n ⌝ }
+// The number of a node whose tag is 0 or 1: its index, and for ground, whose tag is 0, all ones. Two instructions, where asking the node
+// takes four.
+fn node_number(tag: u64, index: usize) -> usize
+    requires { ⌜ leb tag 1 ≡ true ⌝ }
+    ensures { λ r. ⌜ r ≡ indexOf (nodeFrom (record { tag = tag; index = index })) ⌝ }
 {
-    if n <= t.drain_ext.index {
-        return false;
+    let ground = wrapping_sub_u64(tag, 1);
+    (ground as usize) | index
+}
+
+fn node_numbers(t: TerminalsRecord) -> Nodes
+    requires { ⌜ goodTerminals t ≡ true ⌝ }
+    ensures { λ r. ⌜ r ≡ nodesOf (terminalsFrom t) ⌝ }
+{
+    Nodes {
+        drain_ext: node_number(t.drain_ext.tag, t.drain_ext.index),
+        source_ext: node_number(t.source_ext.tag, t.source_ext.index),
+        drain: node_number(t.drain.tag, t.drain.index),
+        gate: node_number(t.gate.tag, t.gate.index),
+        source: node_number(t.source.tag, t.source.index),
+        bulk: node_number(t.bulk.tag, t.bulk.index),
     }
-    if n <= t.source_ext.index {
-        return false;
-    }
-    if n <= t.drain.index {
-        return false;
-    }
-    if n <= t.gate.index {
-        return false;
-    }
-    if n <= t.source.index {
-        return false;
-    }
-    t.bulk.index < n
 }
 
 fn smaller(a: usize, b: usize) -> usize
@@ -138,8 +146,9 @@ pub fn row(
     }
     let d = from_record::device_from(r);
     let kind = record_loading::kind_from(transient, alpha);
-    let inside = indices_below(r.terminals, smaller(rhs, cells[6]));
-    record::wide(load_resolved::resolved_row(d, kind, inside, cells, rhs, values))
+    let n = node_numbers(r.terminals);
+    let inside = from_record::indices(r.terminals) < smaller(rhs, cells[6]);
+    record::wide(load_resolved::resolved_row(n, d, kind, inside, cells, rhs, values))
 }
 
 // The channel, the resistances and the junctions, where no row refuses. `transient` and `alpha` are asked for so that `row` can be said
@@ -159,7 +168,8 @@ pub fn add_static(
 {
     if row == 0 {
         let d = from_record::device_from(r);
-        load_resolved::add_static(d, cells, rhs, values);
+        let n = node_numbers(r.terminals);
+        load_resolved::add_static(n, d, cells, rhs, values);
     }
 }
 
@@ -180,7 +190,8 @@ pub fn add_charges(
     if row == 0 {
         if transient == 1 {
             let d = from_record::device_from(r);
-            load_resolved::add_charges(d, alpha, cells, rhs, values);
+            let n = node_numbers(r.terminals);
+            load_resolved::add_charges(n, d, alpha, cells, rhs, values);
         }
     }
 }

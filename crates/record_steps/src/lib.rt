@@ -13,7 +13,7 @@ use record::MethodRecord;
 use record::NodeRecord;
 use record::TerminalsRecord;
 use temperature::Kelvin;
-ghost use Prim.Native.Nat.{_≤_, _<_};
+ghost use Prim.Native.Nat.{_<_};
 ghost use mathlib.Core.Path.{_≡_};
 ghost use mathlib.Core.Bool.{false};
 ghost use lib.ListN.{length};
@@ -162,19 +162,6 @@ fn read(d: Mosfet1, x: &[f64], k: Conditions) -> Reading
     read_at(rows::voltages(x, d.terminals), vt, method)
 }
 
-// The OR of the six indices: where it is below a number, so is each of them.
-fn indices(t: TerminalsRecord) -> usize
-    ensures { λ r. ⌜ (t .«drain_ext» .index ≤ r) × ((t .«source_ext» .index ≤ r) × ((t .drain .index ≤ r)
-        × ((t .gate .index ≤ r) × ((t .source .index ≤ r) × (t .bulk .index ≤ r))))) ⌝ }
-{
-    t.drain_ext.index
-        | t.source_ext.index
-        | t.drain.index
-        | t.gate.index
-        | t.source.index
-        | t.bulk.index
-}
-
 // What a node is at whose index is inside, ground's too.
 fn node_voltage(x: &[f64], node: NodeRecord) -> f64
     requires { ⌜ node .index < length (now x) ⌝ }
@@ -229,7 +216,7 @@ pub fn read_voltages(r: DeviceRecord, x: &[f64], k: ConditionsRecord) -> Reading
     }
     let d = from_record::device_from(r);
     let n = x.len();
-    if indices(r.terminals) < n {
+    if from_record::indices(r.terminals) < n {
         return read_inside(d, r.terminals, x, conditions_from(k));
     }
     read(d, x, conditions_from(k))

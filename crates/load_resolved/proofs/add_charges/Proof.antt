@@ -13,20 +13,17 @@ use borrow.Author.Needs.{needs}
 use Rattle.load_resolved.proofs.add_charges.Statement.{statement}
 use Rattle.load_resolved.proofs.add_charges.Tie as tie
 
-indices-requires : tie.Need-indices-requires
-indices-requires c κs = search needs
-
 charge-branches-requires : tie.Need-charge-branches-requires
 charge-branches-requires c κs = search needs
 
 add-branches-requires : tie.Need-add-branches-requires
 add-branches-requires c κs =
-    let s = c .before .before .before .before .before in
+    let s = c .before .before .before .before in
     let w = now (s .args .cells) in
     let m = length (now (s .args .values)) in
-    subst (λ (n : Nodes). conductingStored m n w (c .before .charge-branches .result) ≡ true) (sym (c .before .before .indices .ensures))
+    subst (λ (n : Nodes). conductingStored m n w (c .before .charge-branches .result) ≡ true) (sym (s .pre .0))
     (subst (λ (b : ChargeBranches). conductingStored m (nodesOf (s .args .d .terminals)) w b ≡ true) (sym (c .before .charge-branches .ensures))
-    (conducting-is m (nodesOf (s .args .d .terminals)) w (s .args .d) (s .args .alpha) ∙ s .pre))
+    (conducting-is m (nodesOf (s .args .d .terminals)) w (s .args .d) (s .args .alpha) ∙ s .pre .1))
 
 add-histories-requires : tie.Need-add-histories-requires
 add-histories-requires c κs = search needs
@@ -39,9 +36,9 @@ same-length-2 c = search needs
 
 returns : tie.Need-returns
 returns c =
-    let s = c .before .before .before .before .before .before .before .before .before .before .before .before in
+    let s = c .before .before .before .before .before .before .before .before .before .before .before in
     let w = now (s .args .cells) in
-    let n = c .before .before .before .before .before .before .before .before .before .indices .ensures in
+    let n = s .pre .0 in
     let b = c .before .before .before .before .before .before .before .before .charge-branches .ensures in (
       c .before .before .before .before .before .before .add-branches .ensures
           ∙ ap (λ (n : Nodes). addBranchesStored n w (c .before .before .before .before .before .before .before .before .charge-branches .result) (now (s .args .values))) n
@@ -55,7 +52,6 @@ pub add-charges-spec : {M : Type 1} → statement M
 add-charges-spec =
     tie.close
     (tie.spec
-    indices-requires
     charge-branches-requires
     add-branches-requires
     add-histories-requires

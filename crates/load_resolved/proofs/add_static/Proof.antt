@@ -15,13 +15,10 @@ use borrow.Author.Needs.{needs}
 use Rattle.load_resolved.proofs.add_static.Statement.{statement}
 use Rattle.load_resolved.proofs.add_static.Tie as tie
 
-indices-requires : tie.Need-indices-requires
-indices-requires c κs = search needs
-
 add-jacobian-requires : tie.Need-add-jacobian-requires
 add-jacobian-requires c κs =
-    let s = c .before .before .before .before in
-    subst (λ (n : Nodes). pairsStored (length (now (s .args .values))) (jacPairsOf (terminalsAt n)) (numbersFrom (now (s .args .cells)) 8 24) ≡ true) (sym (c .before .indices .ensures)) (s .pre)
+    let s = c .before .before .before in
+    subst (λ (n : Nodes). pairsStored (length (now (s .args .values))) (jacPairsOf (terminalsAt n)) (numbersFrom (now (s .args .cells)) 8 24) ≡ true) (sym (s .pre .0)) (s .pre .1)
 
 residual-values-requires : tie.Need-residual-values-requires
 residual-values-requires c κs = search needs
@@ -37,10 +34,10 @@ same-length-2 c = search needs
 
 returns : tie.Need-returns
 returns c =
-    let s = c .before .before .before .before .before .before .before .before .before .before .before .before in
+    let s = c .before .before .before .before .before .before .before .before .before .before .before in
     let d = s .args .d in
     let w = now (s .args .cells) in
-    let n = c .before .before .before .before .before .before .before .before .before .indices .ensures in (
+    let n = s .pre .0 in (
       c .before .before .before .before .before .before .before .add-jacobian .ensures ∙ ap (λ (n : Nodes). addStored (paired (jacPairsOf (terminalsAt n)) (jacValuesOf d)) (numbersFrom w 8 24) (now (s .args .values))) n,
       c .before .before .add-offsets .ensures
           ∙ ap (λ (n : Nodes). addSources (offsetSources (terminalsAt n) (c .before .before .before .before .residual-values .result)) (now (s .args .rhs))) n
@@ -51,7 +48,6 @@ pub add-static-spec : {M : Type 1} → statement M
 add-static-spec =
     tie.close
     (tie.spec
-    indices-requires
     add-jacobian-requires
     residual-values-requires
     add-offsets-requires

@@ -23,24 +23,27 @@ use Rattle.load_resolved.proofs.load_resolved.Tie as tie
 
 -- the function's start, seen from where the rows are known
 abbrev start : tie.After-resolved-row → tie.Start
-start c = c .before .before .before
+start c = c .before .before .before .before
 
 room : (s : tie.Start) → length (now (s .args .rhs)) ≤ skippedNumber
 room s = omega (arith, s .good .1 .1 .1 .1 .0 .1)
 
+indices-requires : tie.Need-indices-requires
+indices-requires c κs = search needs
+
 resolved-row-requires : tie.Need-resolved-row-requires
-resolved-row-requires c κs = λ e. absurd (false≢true e)
+resolved-row-requires c κs = (c .indices .ensures, λ e. absurd (false≢true e))
 
 returns : tie.Need-returns
 returns c =
-    let s = c .before .before .before .before in
+    let s = c .before .before .before .before .before in
     refused-row (s .args .d) (s .args .kind) (now (s .args .cells)) (now (s .args .rhs)) (now (s .args .values)) (c .before .resolved-row .result) (c .before .resolved-row .ensures) (c .if1 .taken)
 
 add-static-requires : tie.Need-add-static-requires
 add-static-requires c κs =
     let r = c .before .before .before in
     let s = start r in
-    pairs-held (s .args .d) (s .args .kind) (now (s .args .cells)) _ _ (room s) (sym (r .resolved-row .ensures) ∙ c .before .before .if1 .left)
+    (r .before .indices .ensures, pairs-held (s .args .d) (s .args .kind) (now (s .args .cells)) _ _ (room s) (sym (r .resolved-row .ensures) ∙ c .before .before .if1 .left))
 
 enum-told : tie.Need-enum-told
 enum-told c = search needs
@@ -55,9 +58,11 @@ add-charges-requires c κs =
     let d = s .args .d in
     let w = now (s .args .cells) in
     let zero = sym (r .resolved-row .ensures) ∙ c .before .before .before .before .before .before .before .before .before .before .before .before .if1 .left in
-    let same = ap length (c .before .before .before .before .before .before .before .before .before .add-static .ensures .0) ∙ length-stored _ _ _ in
-    subst (λ (n : ℕ). branchesStored n (nodesOf (d .terminals)) w (d .charges) ≡ true) (sym same)
-    (branches-held d _ w _ _ (room s) (subst (λ (k : LoadKind). resolvedRowOf d k w (length (now (s .args .rhs))) (length (now (s .args .values))) ≡ 0) (c .before .before .before .kind .given .1) zero))
+    let same = ap length (c .before .before .before .before .before .before .before .before .before .add-static .ensures .0) ∙ length-stored _ _ _ in (
+      r .before .indices .ensures,
+      subst (λ (n : ℕ). branchesStored n (nodesOf (d .terminals)) w (d .charges) ≡ true) (sym same)
+          (branches-held d _ w _ _ (room s) (subst (λ (k : LoadKind). resolvedRowOf d k w (length (now (s .args .rhs))) (length (now (s .args .values))) ≡ 0) (c .before .before .before .kind .given .1) zero)),
+    )
 
 same-length : tie.Need-same-length
 same-length c = search needs
@@ -112,6 +117,7 @@ pub load-resolved-spec : {M : Type 1} → statement M
 load-resolved-spec =
     tie.close
     (tie.spec
+    indices-requires
     resolved-row-requires
     returns
     add-static-requires

@@ -26,7 +26,7 @@ element-copy-out-count : tie.Need-element-copy-out-count
 element-copy-out-count c = search needs
 
 early-row-requires : tie.Need-early-row-requires
-early-row-requires c κs = search needs
+early-row-requires c κs = c .before .before .pre .1
 
 returns : tie.Need-returns
 unfolding resolvedRowOf
@@ -35,15 +35,12 @@ returns c =
     let e = c .before .early-row .ensures in
     e ∙ early-first _ _ _ _ (not (cellsHeld (now (s .args .cells)) (s .args .d) (s .args .kind) (s .args .values))) (λ z. c .if1 .taken (e ∙ z))
 
-indices-requires : tie.Need-indices-requires
-indices-requires c κs = search needs
-
 is-transient-requires : tie.Need-is-transient-requires
 is-transient-requires c κs = search needs
 
 -- the function's start, seen from behind the last test
 abbrev start : tie.After-cells-held → tie.Start
-start c = c .before .before .before .before .before .before .before
+start c = c .before .before .before .before .before .before
 
 -- what the last test found decides the row
 late : (c : tie.After-cells-held) {x : Bool} → c .cells-held .result ≡ x → cond (not x) 13 0 ≡ resolvedRowOf (start c .args .d) (start c .args .kind) (now (start c .args .cells)) (start c .args .rhs) (start c .args .values)
@@ -55,10 +52,10 @@ late c e =
     let outside = nodesOutside (d .stage) (d .terminals) (s .args .rhs) (getD w 6 0) in
     let alpha = alphaOutside (d .disc) (s .args .kind) in
     let count = not (eqb (s .args .values) (getD w 7 0)) in
-    let passed = sym (c .before .before .before .before .early-row .ensures) ∙ c .before .before .before .if1 .left in
+    let passed = sym (c .before .before .before .early-row .ensures) ∙ c .before .before .if1 .left in
     let nodes = early-terminals (d .stage) (d .terminals) (s .args .rhs) (getD w 6 0) alpha count (omega arith) passed in
     let found = c .cells-held .ensures
-    ∙ ap (λ (n : Nodes). held (s .args .values) n w (d .charges) (c .before .is-transient .result)) (c .before .before .indices .ensures)
+    ∙ ap (λ (n : Nodes). held (s .args .values) n w (d .charges) (c .before .is-transient .result)) (s .pre .0)
     ∙ ap (λ (b : Bool). held (s .args .values) (nodesOf (d .terminals)) w (d .charges) b) (c .before .is-transient .ensures)
     ∙ held-is (s .args .values) w d (s .args .kind) nodes in
     ap (λ (b : Bool). cond (not b) 13 0) (sym e ∙ found)
@@ -85,7 +82,6 @@ resolved-row-spec =
     element-copy-out-count
     early-row-requires
     returns
-    indices-requires
     is-transient-requires
     cells-held-requires
     returns-2

@@ -1,12 +1,16 @@
 -- `record_resolved::add_charges`: where the row is 0 and the load is transient, the device's own.
 use Prim.Native.Nat.{_<_, _^_}
-use mathlib.Core.Path.{sym, _∙_}
+use mathlib.Core.Path.{sym, ap, _∙_}
 use native.Mathlib.Omega.{arith}
 use lib.ListN.{length}
 use denote.Ref.{now}
 use borrow.Author.Tests.{eq-eqb, ne-eqb}
 use Rattle.record_resolved.specs.Steps.{chargeSources, chargeValues, chargedSide, chargedMatrix}
+use Rattle.device.specs.declared.Mosfet1.{Mosfet1}
+use Rattle.places.specs.Places.{nodesOf}
+use Rattle.from_record.specs.Devices.{deviceFrom}
 use Rattle.record_resolved.proofs.Known.{branches-known}
+use Rattle.record_resolved.proofs.Numbers.{of-zero}
 use borrow.Author.Needs.{needs}
 use Rattle.record_resolved.proofs.add_charges.Statement.{statement}
 use Rattle.record_resolved.proofs.add_charges.Tie as tie
@@ -17,11 +21,20 @@ room s = omega (arith, s .good .1 .1 .1 .1 .1 .0 .1)
 device-from-requires : tie.Need-device-from-requires
 device-from-requires c κs = search needs
 
+node-numbers-requires : tie.Need-node-numbers-requires
+node-numbers-requires c κs =
+    let s = c .before .before .before .before .before in
+    of-zero (s .args .r) (s .args .transient) (s .args .alpha) (now (s .args .cells)) _ _ (sym (s .pre) ∙ c .before .before .if1 .taken)
+
 add-charges-requires : tie.Need-add-charges-requires
+unfolding deviceFrom
 add-charges-requires c κs =
-    let s = c .before .before .before .before .before .before .before in
-    rw (c .before .before .device-from .ensures)
-    (branches-known (s .args .r) (s .args .transient) (s .args .alpha) (now (s .args .cells)) (length (now (s .args .rhs))) _ (room s) (c .before .before .before .if2 .taken) (sym (s .pre) ∙ c .before .before .before .before .if1 .taken))
+    let s = c .before .before .before .before .before .before .before .before in
+    let d = c .before .before .before .device-from .ensures in (
+      c .before .before .node-numbers .ensures ∙ ap (λ (d : Mosfet1). nodesOf (d .terminals)) (sym d),
+      rw d
+          (branches-known (s .args .r) (s .args .transient) (s .args .alpha) (now (s .args .cells)) (length (now (s .args .rhs))) _ (room s) (c .before .before .before .before .if2 .taken) (sym (s .pre) ∙ c .before .before .before .before .before .if1 .taken)),
+    )
 
 same-length : tie.Need-same-length
 same-length c = search needs
@@ -32,9 +45,9 @@ same-length-2 c = search needs
 returns : tie.Need-returns
 unfolding chargeSources chargeValues chargedSide chargedMatrix
 returns c =
-    let zero = eq-eqb _ 0 (c .before .before .before .before .before .before .before .before .before .if1 .taken) in
-    let one = eq-eqb _ 1 (c .before .before .before .before .before .before .before .before .if2 .taken) in
-    let d = c .before .before .before .before .before .before .before .device-from .ensures in (
+    let zero = eq-eqb _ 0 (c .before .before .before .before .before .before .before .before .before .before .if1 .taken) in
+    let one = eq-eqb _ 1 (c .before .before .before .before .before .before .before .before .before .if2 .taken) in
+    let d = c .before .before .before .before .before .before .before .before .device-from .ensures in (
       c .before .before .before .before .add-charges .ensures .1 ∙ rw (zero, one, d),
       c .before .before .before .before .add-charges .ensures .0 ∙ rw (zero, one, d),
     )
@@ -57,6 +70,7 @@ add-charges-spec =
     tie.close
     (tie.spec
     device-from-requires
+    node-numbers-requires
     add-charges-requires
     same-length
     same-length-2

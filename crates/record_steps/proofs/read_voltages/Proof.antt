@@ -1,14 +1,13 @@
 -- `record_steps::read_voltages` meets its contract.
 -- Assumes nothing.
-use Prim.Native.Nat.{_<_}
-use mathlib.Core.Path.{ap}
-use native.Mathlib.Omega.{arith}
+use Prim.Native.Nat.{ℕ, _<_}
+use mathlib.Core.Path.{ap, subst}
 use lib.ListN.{length}
 use denote.Ref.{now}
 use borrow.Author.Tests.{not-true, not-false}
 use Rattle.device.specs.declared.Mosfet1.{Mosfet1}
 use Rattle.from_record.specs.Devices.{deviceFrom}
-use Rattle.from_record.proofs.Inside.{none-beyond}
+use Rattle.from_record.proofs.Inside.{all-inside, none-beyond}
 use Rattle.record_steps.specs.Steps.{readingOf}
 use borrow.Author.Needs.{needs}
 use Rattle.record_steps.proofs.read_voltages.Statement.{statement}
@@ -49,15 +48,9 @@ read-inside-requires c κs =
     let s = c .before .before .before .before .before .before .before .before .before in
     let t = s .args .r .terminals in
     let n = length (now (s .args .x)) in
-    let h = c .before .before .indices .ensures in
-    let below : c .before .before .indices .result < n = c .before .if3 .taken in
-    let a : t .«drain_ext» .index < n = omega (arith, h .0, below) in
-    let b : t .«source_ext» .index < n = omega (arith, h .1 .0, below) in
-    let d : t .drain .index < n = omega (arith, h .1 .1 .0, below) in
-    let g : t .gate .index < n = omega (arith, h .1 .1 .1 .0, below) in
-    let e : t .source .index < n = omega (arith, h .1 .1 .1 .1 .0, below) in
-    let f : t .bulk .index < n = omega (arith, h .1 .1 .1 .1 .1, below) in
-    (ap (λ (d : Mosfet1). d .terminals) (c .before .before .before .device-from .ensures), (none-beyond t n a b d g e f, (d, (g, (e, f)))))
+    let below = subst (λ (m : ℕ). m < n) (c .before .before .indices .ensures) (c .before .if3 .taken) in
+    let i = all-inside t n below in
+    (ap (λ (d : Mosfet1). d .terminals) (c .before .before .before .device-from .ensures), (none-beyond t n below, (i .drain, (i .gate, (i .source, i .bulk)))))
 
 returns-3 : tie.Need-returns-3
 unfolding readingOf
