@@ -2,9 +2,9 @@
 //!
 //! A [`Device`] owns its record. The calls come in the order card, geometry, scaling, binding, evaluation; load, commit, noise and
 //! reactances follow an evaluation. A loop over a large matrix looks the device's [`Cells`] up once, by [`Device::resolve`] after the
-//! binding, and loads by [`Device::load_resolved`]. Every call answers or is refused by a [`Refusal`]; after a refusal the device and
-//! every lent slice hold what they held. The repository's docs/USING.md has the keys with their ranges, the causes of refusals, and
-//! what threads may share.
+//! binding, and loads by [`Device::load_resolved`]; one over many devices lays the conditions out once, for [`Device::eval_at`].
+//! Every call answers or is refused by a [`Refusal`]; after a refusal the device and every lent slice hold what they held. The
+//! repository's docs/USING.md has the keys with their ranges, the causes of refusals, and what threads may share.
 //!
 //! ```
 //! use mivtolgya::{Conditions, Device, Method, Node, Polarity};
@@ -128,6 +128,19 @@ pub struct Conditions {
     pub transient: bool,
     /// The method by which a later load and commit integrate the charges.
     pub method: Method,
+}
+
+impl From<Conditions> for ConditionsRecord {
+    #[inline]
+    fn from(conditions: Conditions) -> ConditionsRecord {
+        ConditionsRecord {
+            temperature: conditions.temperature,
+            gmin: conditions.gmin,
+            limiter: conditions.limiter as u64,
+            transient: conditions.transient as u64,
+            method: conditions.method.record(),
+        }
+    }
 }
 
 /// A matrix by rows: row i is `lengths[i]` values from `offsets[i]` on, in the columns that stand at the same places.
@@ -289,15 +302,35 @@ impl Device {
     /// Evaluates at the node voltages `x`, in volts, one for each row.
     #[inline]
     pub fn eval(&mut self, x: &[f64], conditions: Conditions) -> Result<AnswerRecord, Refusal> {
-        let record = ConditionsRecord {
-            temperature: conditions.temperature,
-            gmin: conditions.gmin,
-            limiter: conditions.limiter as u64,
-            transient: conditions.transient as u64,
-            method: conditions.method.record(),
-        };
+        self.eval_at(x, &conditions.into())
+    }
+
+    /// [`eval`](Device::eval) at conditions that are laid out already, with the same answer. A simulator evaluates every device of an
+    /// iteration at the same conditions: laid out once, they are only copied at each call, which takes less time.
+    ///
+    /// A record that was made from [`Conditions`] has no unknown flag or tag. One that was written by hand may have; it is refused
+    /// ([`Refusal::Tag`]).
+    ///
+    /// ```
+    /// # use mivtolgya::*;
+    /// # fn main() -> Result<(), Refusal> {
+    /// # let (mut device, _) = Device::from_model_params(Polarity::Nmos, &[("vto", 1.0), ("kp", 2.0)], &mut [])?;
+    /// # device.set_instance_params(&[], &mut [])?;
+    /// # device.setup_model(300.15)?;
+    /// # device.setup_instance(Node::Row(0), Node::Row(1), Node::Ground, Node::Ground, 2)?;
+    /// # let conditions = Conditions { temperature: 300.15, gmin: 0.0, limiter: false, transient: false, method: Method::None };
+    /// # let mut devices = [device.clone(), device];
+    /// let at = ConditionsRecord::from(conditions);
+    /// for device in &mut devices {
+    ///     assert_eq!(device.eval_at(&[1.0, 3.0], &at)?.ids, 3.0);
+    /// }
+    /// # Ok(())
+    /// # }
+    /// ```
+    #[inline]
+    pub fn eval_at(&mut self, x: &[f64], conditions: &ConditionsRecord) -> Result<AnswerRecord, Refusal> {
         // SAFETY: the pointer and count are a live slice's; the record is borrowed mutably, so it overlaps none.
-        let reply = unsafe { mivtolgya_eval_in_place(&mut self.record, x.as_ptr(), x.len(), record) };
+        let reply = unsafe { mivtolgya_eval_in_place(&mut self.record, x.as_ptr(), x.len(), *conditions) };
         accepted(reply.refusal)?;
         Ok(reply.answer)
     }

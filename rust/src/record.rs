@@ -258,14 +258,21 @@ pub struct NodesRecord {
     pub bulk: NodeRecord,
 }
 
-/// What an evaluation is handed besides the voltages. The limiter and the transient flag are 0 or 1.
+/// What an evaluation is handed besides the voltages, as [`Device::eval_at`](crate::Device::eval_at) takes it. Make it from
+/// [`Conditions`](crate::Conditions), which have no unknown flag or tag; another number in their place is refused as
+/// [`Refusal::Tag`](crate::Refusal::Tag), 100.
 #[repr(C)]
 #[derive(Clone, Copy, Debug)]
 pub struct ConditionsRecord {
+    /// In kelvin, 200 to 500.
     pub temperature: f64,
+    /// In siemens, 0 to 1.
     pub gmin: f64,
+    /// 0 or 1.
     pub limiter: u64,
+    /// 0 or 1.
     pub transient: u64,
+    /// Its tag is a `METHOD_..`, 0 to 3; a step that the method has is 1e-15 to 1 s.
     pub method: MethodRecord,
 }
 

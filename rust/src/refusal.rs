@@ -61,7 +61,8 @@ refusals! {
     Pattern = 12, "the matrix is not laid out as it must be, or not as it was resolved";
     /// The matrix has no place for a value, or the cells were resolved for another binding.
     MissingCell = 13, "the matrix has no place for a value, or the cells are another binding's";
-    /// An unknown tag, or memory that is no device. It cannot happen through this wrapper.
+    /// An unknown tag, or memory that is no device. Through this wrapper only a [`ConditionsRecord`](crate::ConditionsRecord) that
+    /// was written by hand can have one.
     Tag = 100, "an unknown tag, or memory that is no device";
     /// The archive has another interface than this wrapper.
     OtherVersion = 201, "the archive has another interface";

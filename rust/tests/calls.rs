@@ -42,6 +42,39 @@ fn evaluation_load_and_commit() {
     assert!(reactances[1].is_none());
 }
 
+/// A call on an evaluated device: its answer and what it leaves, by their bits.
+fn outcome(call: impl FnOnce(&mut Device) -> Result<AnswerRecord, Refusal>) -> Vec<u64> {
+    let mut device = evaluated(Method::None);
+    let a = call(&mut device).unwrap();
+    let mut all = bits(&device);
+    all.extend([a.vgs, a.vds, a.vth, a.ids, a.gm, a.gds, a.gmbs].map(f64::to_bits));
+    all
+}
+
+#[test]
+fn laid_out_conditions_evaluate_as_conditions_do() {
+    let x = [-0.5, 5.5]; // a step that the limiter shortens
+    let mut seen = std::collections::BTreeSet::new();
+    for (method, tag, h, h_prev) in [
+        (Method::None, 0, 0.0, 0.0),
+        (Method::Euler(1e-9), 1, 1e-9, 0.0),
+        (Method::Trapezoid(1e-9), 2, 1e-9, 0.0),
+        (Method::Gear(1e-9, 2e-9), 3, 1e-9, 2e-9),
+    ] {
+        for (limiter, transient) in [(false, false), (false, true), (true, false), (true, true)] {
+            let conditions = Conditions { temperature: 310.0, gmin: 1e-12, limiter, transient, method };
+            let expected = outcome(|d| d.eval(&x, conditions));
+            assert_eq!(outcome(|d| d.eval_at(&x, &conditions.into())), expected);
+            // the same, each number written by hand
+            let (limiter, transient) = (u64::from(limiter), u64::from(transient));
+            let method = MethodRecord { tag, h, h_prev };
+            let record = ConditionsRecord { temperature: 310.0, gmin: 1e-12, limiter, transient, method };
+            assert_eq!(outcome(|d| d.eval_at(&x, &record)), expected);
+            assert!(seen.insert(expected), "each condition is seen in what it leaves");
+        }
+    }
+}
+
 #[test]
 fn a_pmos_answers_flipped_voltages_and_the_current_as_it_flows() {
     let (mut device, _) = Device::from_model_params(Polarity::Pmos, &[("vto", -1.0), ("kp", 2.0)], &mut []).unwrap();

@@ -162,6 +162,26 @@ fn row_13_missing_cells() {
 }
 
 #[test]
+fn row_100_tags() {
+    let good = ConditionsRecord::from(conditions(Method::Gear(0.5, 0.5)));
+    for tag in [4, 1 << 32, u64::MAX] {
+        // 100 comes before all others: the voltages are bad too
+        for x in [X, [f64::NAN; 2]] {
+            for mut device in [bound(), evaluated(Method::Euler(0.5))] {
+                let method = MethodRecord { tag, ..good.method };
+                refused(Refusal::Tag, &mut device, |d| d.eval_at(&x, &ConditionsRecord { method, ..good }));
+                for flag in [2, tag] {
+                    refused(Refusal::Tag, &mut device, |d| d.eval_at(&x, &ConditionsRecord { limiter: flag, ..good }));
+                    refused(Refusal::Tag, &mut device, |d| d.eval_at(&x, &ConditionsRecord { transient: flag, ..good }));
+                }
+            }
+        }
+    }
+    assert_eq!(Refusal::Tag.number(), 100);
+    bound().eval_at(&X, &good).unwrap();
+}
+
+#[test]
 fn the_wrappers_own_room() {
     let keys = [("vto", 1.0); MAX_KEYS + 1];
     assert!(card(&keys[..MAX_KEYS]).is_ok());

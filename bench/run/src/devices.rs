@@ -146,7 +146,7 @@ rust_model!(rust_port, with_port);
 
 pub mod port {
     use super::*;
-    use mivtolgya::{Cells, Conditions, Device, Load, Matrix, Method, Node, Polarity};
+    use mivtolgya::{Cells, Conditions, ConditionsRecord, Device, Load, Matrix, Method, Node, Polarity};
 
     /// Values with their pattern.
     pub struct Laid {
@@ -176,7 +176,8 @@ pub mod port {
     /// A device whose load searches.
     pub struct Searching {
         device: Device,
-        conditions: Conditions,
+        /// Laid out once, as a simulator can: it evaluates every device of an iteration at the same conditions.
+        conditions: ConditionsRecord,
         kind: Load,
     }
 
@@ -199,12 +200,12 @@ pub mod port {
             let method = if case.transient { Method::Euler(case.step) } else { Method::None };
             let conditions = Conditions { temperature: KELVIN, gmin: GMIN, limiter: true, transient: case.transient, method };
             let kind = if case.transient { Load::Transient(0.0) } else { Load::DirectCurrent };
-            Searching { device, conditions, kind }
+            Searching { device, conditions: conditions.into(), kind }
         }
 
         fn eval(&mut self, x: &[f64]) {
             // The answer is not looked at, as the Rust gives none.
-            self.device.eval(x, self.conditions).unwrap();
+            self.device.eval_at(x, &self.conditions).unwrap();
         }
 
         fn load(&self, rhs: &mut [f64], m: &mut Laid) {
