@@ -1,7 +1,7 @@
 -- Evaluation and commit of a device that is a record: a record with an unknown tag is refused under 100, any other as its device is.
 -- What a call does not change stays in the record as it was handed in, unused fields too.
 use Prim.Native.Nat.{ℕ}
-use mathlib.Core.Bool.{Bool, true, false, cond, _&&_}
+use mathlib.Core.Bool.{Bool, true, cond, _&&_}
 use mathlib.Core.List.{List}
 use lib.Dec.{eqb, leb}
 use lib.Ieee.{Float}

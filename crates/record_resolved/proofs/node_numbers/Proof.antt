@@ -2,7 +2,6 @@
 use Rattle.places.specs.Places.{nodesOf}
 use Rattle.from_record.specs.Devices.{terminalsFrom}
 use Rattle.record_resolved.proofs.Numbers.{known}
-use borrow.Author.Needs.{needs}
 use Rattle.record_resolved.proofs.node_numbers.Statement.{statement}
 use Rattle.record_resolved.proofs.node_numbers.Tie as tie
 

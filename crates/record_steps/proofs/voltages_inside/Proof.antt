@@ -2,7 +2,6 @@
 -- Assumes nothing.
 use Rattle.rows.specs.Rows.{voltagesOf}
 use Rattle.from_record.specs.Devices.{terminalsFrom}
-use borrow.Author.Needs.{needs}
 use Rattle.record_steps.proofs.voltages_inside.Statement.{statement}
 use Rattle.record_steps.proofs.voltages_inside.Tie as tie
 
