@@ -17,7 +17,7 @@ pub fn kind_from(transient: u64, alpha: f64) -> LoadKind
     }
 }
 
-pub fn load_number(a: LoadAnswer) -> u64
+fn load_number(a: LoadAnswer) -> u64
     ensures { λ r. ⌜ r ≡ number (outcomeOfLoad a) ⌝ }
 {
     match a {
