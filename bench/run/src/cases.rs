@@ -26,8 +26,17 @@ pub const GMIN: f64 = 1e-12;
 pub const KELVIN: f64 = 310.0;
 
 const CHANNEL: [(&str, f64); 3] = [("kp", 1e-4), ("lambda", 0.02), ("gamma", 0.4)];
-const CAPACITANCES: [(&str, f64); 6] =
-    [("tox", 1e-7), ("cgso", 1e-10), ("cgdo", 1e-10), ("cgbo", 1e-10), ("cj", 1e-4), ("cjsw", 1e-10)];
+// mj and mjsw are the Rust's defaults; ngspice has another for mjsw, 0.5, with which it takes a root in place of a power
+const CAPACITANCES: [(&str, f64); 8] = [
+    ("tox", 1e-7),
+    ("cgso", 1e-10),
+    ("cgdo", 1e-10),
+    ("cgbo", 1e-10),
+    ("cj", 1e-4),
+    ("cjsw", 1e-10),
+    ("mj", 0.5),
+    ("mjsw", 0.33),
+];
 
 impl Case {
     /// The card as keys with values.
