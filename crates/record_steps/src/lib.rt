@@ -2,11 +2,9 @@
 use bias::Answer;
 use bias::Voltages;
 use device::Charges;
-use device::Discretisation;
 use device::Mosfet1;
 use device::OperatingPoint;
 use model::calls::Commit;
-use mosfet1::steps::Conditions;
 use record::DeviceRecord;
 use record::HistoriesRecord;
 use record::MethodRecord;
@@ -18,9 +16,10 @@ ghost use mathlib.Core.Path.{_≡_};
 ghost use mathlib.Core.Bool.{false};
 ghost use lib.ListN.{length};
 ghost use Rattle.device.specs.Nodes.{anyNodeBeyond};
-ghost use Rattle.rows.specs.Rows.{nodeVoltageOf, voltagesOf};
+ghost use Rattle.device.specs.Stages.{unbound};
+ghost use Rattle.rows.specs.Rows.{nodeVoltageOf, voltagesOf, row11Of};
 ghost use Rattle.model.specs.Calls.{outcomeOfCommit};
-ghost use Rattle.from_record.specs.Devices.{nodeFrom, terminalsFrom};
+ghost use Rattle.from_record.specs.Devices.{nodeFrom, methodFrom, stageFrom, terminalsFrom, deviceFrom};
 ghost use Rattle.record_steps.specs.Steps.{goodConditions, conditionsFrom, refusedReply, refusedReading, readAtOf, readOf, readingOf, changesAt, evaluateOf, chargesFrom, commitGiven, commitRecordOf};
 
 // What an evaluation is handed besides the voltages. The limiter and the transient flag are 0 or 1.
@@ -87,19 +86,6 @@ fn good_conditions(k: ConditionsRecord) -> bool
     k.method.tag <= 3
 }
 
-fn conditions_from(k: ConditionsRecord) -> Conditions
-    ensures { λ r. ⌜ r ≡ conditionsFrom k ⌝ }
-{
-    let limiter = k.limiter == 1;
-    let method = k.method;
-    Conditions {
-        temperature: Kelvin(k.temperature),
-        gmin: k.gmin,
-        limiter,
-        method: from_record::method_from(method),
-    }
-}
-
 // A refusal answers zeros.
 fn refused_reply(n: u64) -> EvaluationReply
     ensures { λ y. ⌜ y ≡ refusedReply n ⌝ }
@@ -133,13 +119,32 @@ fn refused_reading(n: u64) -> Reading
     }
 }
 
-// What is read once the voltages are known: rows 9 and 11 are about them and the method.
-fn read_at(v: Voltages, vt: f64, method: Discretisation) -> Reading
-    ensures { λ o. ⌜ o ≡ readAtOf v vt method ⌝ }
+// Row 11 of the record's method. A tag above 2 is Gear's, as in `method_from`.
+fn row11(m: MethodRecord) -> bool
+    ensures { λ r. ⌜ r ≡ row11Of (methodFrom m) ⌝ }
 {
-    let last = step_rows::last_row(v, method);
-    if last != 0 {
-        return refused_reading(record::wide(last));
+    let tag = m.tag;
+    if tag == 0 {
+        return false;
+    }
+    if step_rows::bad_step(m.h) {
+        return true;
+    }
+    if tag < 3 {
+        return false;
+    }
+    step_rows::bad_step(m.h_prev)
+}
+
+// What is read once the voltages are known: rows 9 and 11 are about them and the method.
+fn read_at(v: Voltages, vt: f64, method: MethodRecord) -> Reading
+    ensures { λ o. ⌜ o ≡ readAtOf v vt (methodFrom method) ⌝ }
+{
+    if step_rows::row9(v) {
+        return refused_reading(9);
+    }
+    if row11(method) {
+        return refused_reading(11);
     }
     Reading {
         row: 0,
@@ -148,18 +153,18 @@ fn read_at(v: Voltages, vt: f64, method: Discretisation) -> Reading
     }
 }
 
-fn read(d: Mosfet1, x: &[f64], k: Conditions) -> Reading
-    ensures { λ o. ⌜ o ≡ readOf d (now (x .entry)) k ⌝ }
+fn read(d: Mosfet1, x: &[f64], k: ConditionsRecord) -> Reading
+    ensures { λ o. ⌜ o ≡ readOf d (now (x .entry)) (conditionsFrom k) ⌝ }
 {
     let stage = d.stage;
-    let method = k.method;
     let n = x.len();
-    let vt = junction::vt(k.temperature);
-    let first = step_rows::first_row(stage, d.terminals, n, k.temperature, k.gmin);
+    let temperature = Kelvin(k.temperature);
+    let vt = junction::vt(temperature);
+    let first = step_rows::first_row(stage, d.terminals, n, temperature, k.gmin);
     if first != 0 {
         return refused_reading(record::wide(first));
     }
-    read_at(rows::voltages(x, d.terminals), vt, method)
+    read_at(rows::voltages(x, d.terminals), vt, k.method)
 }
 
 // What a node is at whose index is inside, ground's too.
@@ -186,20 +191,32 @@ fn voltages_inside(x: &[f64], t: TerminalsRecord) -> Voltages
     Voltages { vd, vg, vs, vb }
 }
 
-// The same where every index is inside: row 8 is not asked, and the voltages are read by the record's own fields.
-fn read_inside(d: Mosfet1, t: TerminalsRecord, x: &[f64], k: Conditions) -> Reading
-    requires { ⌜ (d .terminals ≡ terminalsFrom t) × ((anyNodeBeyond (length (now x)) (terminalsFrom t) ≡ false)
-        × ((t .drain .index < length (now x)) × ((t .gate .index < length (now x)) × ((t .source .index < length (now x)) × (t .bulk .index < length (now x)))))) ⌝ }
-    ensures { λ o. ⌜ o ≡ readOf d (now (x .entry)) k ⌝ }
+// Whether the stage of that number is before binding: 1, 2 or 3.
+fn unbound(stage: u64) -> bool
+    ensures { λ r. ⌜ r ≡ unbound (stageFrom stage) ⌝ }
 {
-    let stage = d.stage;
-    let method = k.method;
-    let vt = junction::vt(k.temperature);
-    let first = step_rows::first_row_inside(stage, k.temperature, k.gmin);
-    if first != 0 {
-        return refused_reading(record::wide(first));
+    if 3 < stage {
+        return false;
     }
-    read_at(voltages_inside(x, t), vt, method)
+    stage != 0
+}
+
+// The same where every index is inside: row 8 is not asked, and stage, method and voltages are read by the record's own fields.
+fn read_inside(r: DeviceRecord, x: &[f64], k: ConditionsRecord) -> Reading
+    requires { ⌜ (anyNodeBeyond (length (now x)) (terminalsFrom (r .terminals)) ≡ false)
+        × ((r .terminals .drain .index < length (now x)) × ((r .terminals .gate .index < length (now x))
+        × ((r .terminals .source .index < length (now x)) × (r .terminals .bulk .index < length (now x))))) ⌝ }
+    ensures { λ o. ⌜ o ≡ readOf (deviceFrom r) (now (x .entry)) (conditionsFrom k) ⌝ }
+{
+    let temperature = Kelvin(k.temperature);
+    let vt = junction::vt(temperature);
+    if step_rows::row6(temperature, k.gmin) {
+        return refused_reading(6);
+    }
+    if unbound(r.stage) {
+        return refused_reading(10);
+    }
+    read_at(voltages_inside(x, r.terminals), vt, k.method)
 }
 
 // An evaluation in three steps, each with a copy of the record of its own: so the compiler reads of the record what a step needs when
@@ -214,12 +231,11 @@ pub fn read_voltages(r: DeviceRecord, x: &[f64], k: ConditionsRecord) -> Reading
     if !good_conditions(k) {
         return refused_reading(100);
     }
-    let d = from_record::device_from(r);
     let n = x.len();
     if from_record::indices(r.terminals) < n {
-        return read_inside(d, r.terminals, x, conditions_from(k));
+        return read_inside(r, x, k);
     }
-    read(d, x, conditions_from(k))
+    read(from_record::device_from(r), x, k)
 }
 
 // What changes, at what was read.

@@ -14,7 +14,7 @@ use Rattle.device.specs.declared.Stage.{Stage}
 use Rattle.device.specs.declared.Discretisation.{Discretisation}
 use Rattle.device.specs.declared.Terminals.{Terminals}
 use Rattle.rows.specs.Rows.{row6Of, nodesOutside, voltagesOutside, row9Of, row11Of, voltagesOf, evalRowOf}
-use Rattle.step_rows.specs.StepRows.{firstRowOf, firstRowInsideOf, lastRowOf}
+use Rattle.step_rows.specs.StepRows.{firstRowOf, lastRowOf}
 
 abbrev first : Bool → Bool → Bool → ℕ
 first six ten eight = cond six 6 (cond ten 10 (cond eight 8 0))
@@ -30,6 +30,14 @@ unfolding evalRowOf firstRowOf lastRowOf nodesOutside voltagesOutside
 in-two stage t x temperature gmin disc = parts (row6Of temperature gmin) (unbound stage) (anyNodeBeyond (length x) t) (row9Of (voltagesOf x t)) (row11Of disc)
 
 -- where no node is beyond the length, row 8 need not be asked
-pub first-inside : (stage : Stage) (t : Terminals) (n : ℕ) (temperature : Kelvin) (gmin : Float) → anyNodeBeyond n t ≡ false → firstRowOf stage t n temperature gmin ≡ firstRowInsideOf stage temperature gmin
-unfolding firstRowOf firstRowInsideOf
-first-inside stage t n temperature gmin e = rw (e)
+abbrev inside : Bool → Bool → ℕ → ℕ
+inside six ten last = cond six 6 (cond ten 10 last)
+
+parts-inside : (six ten nine eleven : Bool) → inside six false (cond (not ten && false) 8 (cond (not ten && nine) 9 (cond ten 10 (cond eleven 11 0)))) ≡ inside six ten (cond nine 9 (cond eleven 11 0))
+parts-inside true ten nine eleven = refl
+parts-inside false true nine eleven = refl
+parts-inside false false nine eleven = refl
+
+pub row-inside : (stage : Stage) (t : Terminals) (x : List Float) (temperature : Kelvin) (gmin : Float) (disc : Discretisation) → anyNodeBeyond (length x) t ≡ false → evalRowOf stage t x temperature gmin disc ≡ cond (row6Of temperature gmin) 6 (cond (unbound stage) 10 (lastRowOf (voltagesOf x t) disc))
+unfolding evalRowOf lastRowOf nodesOutside voltagesOutside
+row-inside stage t x temperature gmin disc e = rw (e) (parts-inside (row6Of temperature gmin) (unbound stage) (row9Of (voltagesOf x t)) (row11Of disc))

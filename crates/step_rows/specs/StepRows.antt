@@ -18,9 +18,5 @@ unfoldable pub firstRowOf : Stage → Terminals → ℕ → Kelvin → Float →
 firstRowOf stage t n temperature gmin =
     rowNumber ((6 when row6Of temperature gmin) ∷ (10 when unbound stage) ∷ (8 when anyNodeBeyond n t) ∷ [])
 
--- the same where no node is beyond the lent length
-unfoldable pub firstRowInsideOf : Stage → Kelvin → Float → ℕ
-firstRowInsideOf stage temperature gmin = rowNumber ((6 when row6Of temperature gmin) ∷ (10 when unbound stage) ∷ [])
-
 unfoldable pub lastRowOf : Voltages → Discretisation → ℕ
 lastRowOf v disc = rowNumber ((9 when row9Of v) ∷ (11 when row11Of disc) ∷ [])

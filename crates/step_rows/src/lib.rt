@@ -11,7 +11,7 @@ ghost use mathlib.Core.Bool.{_||_};
 ghost use Rattle.device.specs.Nodes.{nodeBeyond, anyNodeBeyond};
 ghost use Rattle.device.specs.Stages.{unbound};
 ghost use Rattle.rows.specs.Rows.{outsideOf, row6Of, row9Of, badStepOf, row11Of, commitRowOf};
-ghost use Rattle.step_rows.specs.StepRows.{firstRowOf, firstRowInsideOf, lastRowOf};
+ghost use Rattle.step_rows.specs.StepRows.{firstRowOf, lastRowOf};
 
 fn either(a: bool, b: bool) -> bool
     ensures { λ r. ⌜ r ≡ (a || b) ⌝ }
@@ -29,7 +29,7 @@ fn outside(lo: f64, hi: f64, v: f64) -> bool
     !device::within(v, lo, hi)
 }
 
-fn row6(temperature: Kelvin, gmin: f64) -> bool
+pub fn row6(temperature: Kelvin, gmin: f64) -> bool
     ensures { λ r. ⌜ r ≡ row6Of temperature gmin ⌝ }
 {
     let a = device::outside_temperatures(temperature);
@@ -63,7 +63,7 @@ fn row8(n: usize, t: Terminals) -> bool
     either(e, beyond(n, bulk))
 }
 
-fn row9(v: Voltages) -> bool
+pub fn row9(v: Voltages) -> bool
     ensures { λ r. ⌜ r ≡ row9Of v ⌝ }
 {
     let a = outside(-1000.0, 1000.0, v.vd);
@@ -78,7 +78,7 @@ fn unbound(stage: Stage) -> bool
     device::before(stage, Stage::Bound)
 }
 
-fn bad_step(h: f64) -> bool
+pub fn bad_step(h: f64) -> bool
     ensures { λ r. ⌜ r ≡ badStepOf h ⌝ }
 {
     outside(1e-15, 1.0, h)
@@ -111,19 +111,6 @@ pub fn first_row(stage: Stage, t: Terminals, n: usize, temperature: Kelvin, gmin
     }
     if row8(n, t) {
         return 8;
-    }
-    0
-}
-
-// The same but row 8, for a caller that knows that no node is beyond the lent length.
-pub fn first_row_inside(stage: Stage, temperature: Kelvin, gmin: f64) -> u8
-    ensures { λ r. ⌜ r ≡ firstRowInsideOf stage temperature gmin ⌝ }
-{
-    if row6(temperature, gmin) {
-        return 6;
-    }
-    if unbound(stage) {
-        return 10;
     }
     0
 }

@@ -1,8 +1,8 @@
 -- `record_steps::read_inside` meets its contract.
 -- Assumes nothing.
-use borrow.Author.Tests.{eq-eqb, ne-eqb}
-use Rattle.step_rows.proofs.InTwo.{in-two, first-inside}
-use Rattle.record_steps.specs.Steps.{readAtOf}
+use Rattle.step_rows.proofs.InTwo.{row-inside}
+use Rattle.from_record.specs.Devices.{deviceFrom}
+use Rattle.record_steps.specs.Steps.{conditionsFrom, readAtOf}
 use Rattle.record_steps.proofs.Changes.{read-by-row}
 use borrow.Author.Needs.{needs}
 use Rattle.record_steps.proofs.read_inside.Statement.{statement}
@@ -11,32 +11,41 @@ use Rattle.record_steps.proofs.read_inside.Tie as tie
 vt-requires : tie.Need-vt-requires
 vt-requires c κs = search needs
 
-first-row-inside-requires : tie.Need-first-row-inside-requires
-first-row-inside-requires c κs = search needs
-
-wide-requires : tie.Need-wide-requires
-wide-requires c κs = search needs
+row6-requires : tie.Need-row6-requires
+row6-requires c κs = search needs
 
 refused-reading-requires : tie.Need-refused-reading-requires
 refused-reading-requires c κs = search needs
 
 returns : tie.Need-returns
+unfolding deviceFrom conditionsFrom
 returns c =
-    let s = c .before .before .before .before .before .before in
-    let taken = c .before .before .if1 .taken in
-    rw (c .refused-reading .ensures, c .before .wide .ensures, read-by-row _ _ _, in-two _ _ _ _ _ _, s .pre .0, first-inside _ _ _ _ _ (s .pre .1 .0), ← c .before .before .before .first-row-inside .ensures, ne-eqb _ 0 taken, ne-eqb _ 0 taken)
+    let s = c .before .before .before .before .before in
+    rw (c .refused-reading .ensures, read-by-row _ _ _, row-inside _ _ _ _ _ _ (s .pre .0), ← c .before .before .row6 .ensures, c .before .if1 .taken)
+
+unbound-requires : tie.Need-unbound-requires
+unbound-requires c κs = search needs
+
+refused-reading-requires-2 : tie.Need-refused-reading-requires-2
+refused-reading-requires-2 c κs = search needs
+
+returns-2 : tie.Need-returns-2
+unfolding deviceFrom conditionsFrom
+returns-2 c =
+    let s = c .before .before .before .before .before .before .before in
+    rw (c .refused-reading2 .ensures, read-by-row _ _ _, row-inside _ _ _ _ _ _ (s .pre .0), ← c .before .before .before .before .row6 .ensures, c .before .before .before .if1 .left, ← c .before .before .unbound .ensures, c .before .if2 .taken)
 
 voltages-inside-requires : tie.Need-voltages-inside-requires
-voltages-inside-requires c κs = c .before .before .before .before .pre .1 .1
+voltages-inside-requires c κs = c .before .before .before .before .before .before .pre .1
 
 read-at-requires : tie.Need-read-at-requires
 read-at-requires c κs = search needs
 
-returns-2 : tie.Need-returns-2
-unfolding readAtOf
-returns-2 c =
-    let s = c .before .before .before .before .before .before in
-    rw (c .read-at .ensures, c .before .voltages-inside .ensures, c .before .before .before .before .vt .ensures, read-by-row _ _ _, in-two _ _ _ _ _ _, s .pre .0, first-inside _ _ _ _ _ (s .pre .1 .0), ← c .before .before .before .first-row-inside .ensures, eq-eqb _ 0 (c .before .before .if1 .left))
+returns-3 : tie.Need-returns-3
+unfolding deviceFrom conditionsFrom readAtOf
+returns-3 c =
+    let s = c .before .before .before .before .before .before .before .before in
+    rw (c .read-at .ensures, c .before .voltages-inside .ensures, c .before .before .before .before .before .before .vt .ensures, read-by-row _ _ _, row-inside _ _ _ _ _ _ (s .pre .0), ← c .before .before .before .before .before .row6 .ensures, c .before .before .before .before .if1 .left, ← c .before .before .before .unbound .ensures, c .before .before .if2 .left)
 
 pub read-inside-spec : {M : Type 1} → statement M
-read-inside-spec = tie.close (tie.spec vt-requires first-row-inside-requires wide-requires refused-reading-requires returns voltages-inside-requires read-at-requires returns-2)
+read-inside-spec = tie.close (tie.spec vt-requires row6-requires refused-reading-requires returns unbound-requires refused-reading-requires-2 returns-2 voltages-inside-requires read-at-requires returns-3)

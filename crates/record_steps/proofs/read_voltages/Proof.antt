@@ -1,12 +1,10 @@
 -- `record_steps::read_voltages` meets its contract.
 -- Assumes nothing.
 use Prim.Native.Nat.{ℕ, _<_}
-use mathlib.Core.Path.{ap, subst}
+use mathlib.Core.Path.{subst}
 use lib.ListN.{length}
 use denote.Ref.{now}
 use borrow.Author.Tests.{not-true, not-false}
-use Rattle.device.specs.declared.Mosfet1.{Mosfet1}
-use Rattle.from_record.specs.Devices.{deviceFrom}
 use Rattle.from_record.proofs.Inside.{all-inside, none-beyond}
 use Rattle.record_steps.specs.Steps.{readingOf}
 use borrow.Author.Needs.{needs}
@@ -33,40 +31,31 @@ returns-2 : tie.Need-returns-2
 unfolding readingOf
 returns-2 c = rw (c .refused-reading2 .ensures, ← c .before .before .before .before .good-tags-at-once .ensures, not-false (c .before .before .before .before .good-tags-at-once .result) (c .before .before .before .if1 .left), ← c .before .before .good-conditions .ensures, not-true (c .before .before .good-conditions .result) (c .before .if2 .taken))
 
-device-from-requires : tie.Need-device-from-requires
-device-from-requires c κs = search needs
-
 indices-requires : tie.Need-indices-requires
 indices-requires c κs = search needs
 
-conditions-from-requires : tie.Need-conditions-from-requires
-conditions-from-requires c κs = search needs
-
 read-inside-requires : tie.Need-read-inside-requires
-unfolding deviceFrom
 read-inside-requires c κs =
-    let s = c .before .before .before .before .before .before .before .before .before in
+    let s = c .before .before .before .before .before .before .before in
     let t = s .args .r .terminals in
     let n = length (now (s .args .x)) in
-    let below = subst (λ (m : ℕ). m < n) (c .before .before .indices .ensures) (c .before .if3 .taken) in
+    let below = subst (λ (m : ℕ). m < n) (c .before .indices .ensures) (c .if3 .taken) in
     let i = all-inside t n below in
-    (ap (λ (d : Mosfet1). d .terminals) (c .before .before .before .device-from .ensures), (none-beyond t n below, (i .drain, (i .gate, (i .source, i .bulk)))))
+    (none-beyond t n below, (i .drain, (i .gate, (i .source, i .bulk))))
 
 returns-3 : tie.Need-returns-3
 unfolding readingOf
 returns-3 c =
     rw (
       c .read-inside .ensures,
-      c .before .conditions-from .ensures,
-      c .before .before .before .before .device-from .ensures,
-      ← c .before .before .before .before .before .before .before .before .good-tags-at-once .ensures,
-      not-false (c .before .before .before .before .before .before .before .before .good-tags-at-once .result) (c .before .before .before .before .before .before .before .if1 .left),
-      ← c .before .before .before .before .before .before .good-conditions .ensures,
-      not-false (c .before .before .before .before .before .before .good-conditions .result) (c .before .before .before .before .before .if2 .left),
+      ← c .before .before .before .before .before .before .good-tags-at-once .ensures,
+      not-false (c .before .before .before .before .before .before .good-tags-at-once .result) (c .before .before .before .before .before .if1 .left),
+      ← c .before .before .before .before .good-conditions .ensures,
+      not-false (c .before .before .before .before .good-conditions .result) (c .before .before .before .if2 .left),
     )
 
-conditions-from-requires-2 : tie.Need-conditions-from-requires-2
-conditions-from-requires-2 c κs = search needs
+device-from-requires : tie.Need-device-from-requires
+device-from-requires c κs = search needs
 
 read-requires : tie.Need-read-requires
 read-requires c κs = search needs
@@ -76,13 +65,12 @@ unfolding readingOf
 returns-4 c =
     rw (
       c .read .ensures,
-      c .before .conditions-from2 .ensures,
-      c .before .before .before .before .device-from .ensures,
-      ← c .before .before .before .before .before .before .before .before .good-tags-at-once .ensures,
-      not-false (c .before .before .before .before .before .before .before .before .good-tags-at-once .result) (c .before .before .before .before .before .before .before .if1 .left),
-      ← c .before .before .before .before .before .before .good-conditions .ensures,
-      not-false (c .before .before .before .before .before .before .good-conditions .result) (c .before .before .before .before .before .if2 .left),
+      c .before .device-from .ensures,
+      ← c .before .before .before .before .before .before .before .good-tags-at-once .ensures,
+      not-false (c .before .before .before .before .before .before .before .good-tags-at-once .result) (c .before .before .before .before .before .before .if1 .left),
+      ← c .before .before .before .before .before .good-conditions .ensures,
+      not-false (c .before .before .before .before .before .good-conditions .result) (c .before .before .before .before .if2 .left),
     )
 
 pub read-voltages-spec : {M : Type 1} → statement M
-read-voltages-spec = tie.close (tie.spec good-tags-at-once-requires refused-reading-requires returns good-conditions-requires refused-reading-requires-2 returns-2 device-from-requires indices-requires conditions-from-requires read-inside-requires returns-3 conditions-from-requires-2 read-requires returns-4)
+read-voltages-spec = tie.close (tie.spec good-tags-at-once-requires refused-reading-requires returns good-conditions-requires refused-reading-requires-2 returns-2 indices-requires read-inside-requires returns-3 device-from-requires read-requires returns-4)
