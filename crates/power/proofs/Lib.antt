@@ -8,3 +8,4 @@ pub mod BothFractional
 pub mod Accuracy
 pub mod SpecialCases
 pub mod Sizes
+mod BaseOne

@@ -30,7 +30,7 @@ log-not-positive : (b : Float) → (+0 <f b) ≡ false → logOf b ≡ cond (b =
 unfolding logOf
 log-not-positive b e = ap (λ (s : Bool). cond s (cond (b <f inf false) (cond (b =f +1) BaseOne (logBits (toBits binary64 b))) Undefined) (cond (b =f +0) BaseZero Undefined)) e
 
-log-one : (b : Float) → (+0 <f b) ≡ true → (b <f inf false) ≡ true → (b =f +1) ≡ true → logOf b ≡ BaseOne
+pub log-one : (b : Float) → (+0 <f b) ≡ true → (b <f inf false) ≡ true → (b =f +1) ≡ true → logOf b ≡ BaseOne
 log-one b e f g = log-positive b e ∙ (λ i. positive-case b (f i) (g i))
 
 pub one-anyway : (p : Float) → powFrom BaseOne p ≡ +1

@@ -152,10 +152,19 @@ pub fn four_powers(b: f64, p: f64, q: f64, s: f64, t: f64) -> FourPowers
     }
 }
 
-// b^-m, b^(1 - m), b^-n and b^(1 - n): quick where these exponents are fractions, and the size of the logarithm is at most 700.
+// b^-m, b^(1 - m), b^-n and b^(1 - n): at once where b is 1, as it is at a junction without voltage, and quick where these exponents
+// are fractions and the size of the logarithm is at most 700.
 pub fn fractional_powers(b: f64, m: f64, n: f64) -> FourPowers
     ensures { λ r. ⌜ (r .first ≡ powOf b (neg m)) × (r .second ≡ powOf b (+1 ⊖ m)) × (r .third ≡ powOf b (neg n)) × (r .fourth ≡ powOf b (+1 ⊖ n)) ⌝ }
 {
+    if b == 1.0 {
+        return FourPowers {
+            first: 1.0,
+            second: 1.0,
+            third: 1.0,
+            fourth: 1.0,
+        };
+    }
     let v = log_size(b);
     if v <= 6305039478318694400 {
         if fractions(m) {
