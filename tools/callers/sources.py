@@ -100,7 +100,7 @@ ROWS = {
     "evaluation": ["rows/specs/Rows evalRows"],
     "load": ["loading/specs/Loading loadRows"],
     "resolving": ["resolve/specs/Resolve resolveRows"],
-    "resolved load": ["load_resolved/specs/LoadResolved loadResolvedRows"],
+    "resolved load": ["resolved_rows/specs/LoadResolved loadResolvedRows"],
     "commit": ["rows/specs/Rows commitRows"],
     "noise": ["rows/specs/Rows noiseRows"],
     "reactances": ["rows/specs/Rows reactanceRows"],

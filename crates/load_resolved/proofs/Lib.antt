@@ -1,10 +1,5 @@
-pub mod Folds
-pub mod Below
 pub mod Stored
 pub mod Zero
 pub mod NoConductance
-pub mod Held
-pub mod Outcomes
 pub mod Parts
 pub mod There
-pub mod Known

@@ -11,7 +11,7 @@ use Rattle.stamps.specs.Stamps.{position}
 use Rattle.adding.specs.Adding.{addAt}
 use Rattle.adding.proofs.Adding.{length-add}
 use Rattle.assembly.specs.Assembly.{addPlace, paired}
-use Rattle.load_resolved.specs.LoadResolved.{storedPlace, addStored}
+use Rattle.resolved_rows.specs.LoadResolved.{storedPlace, addStored}
 use Rattle.load_resolved.specs.ByNumbers.{placeBetween, addPair}
 use Rattle.load_resolved.proofs.Stored.{add-between}
 

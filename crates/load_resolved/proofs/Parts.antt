@@ -26,10 +26,10 @@ use Rattle.loading.specs.Loading.{nodesOutside, alphaOutside, branchesOf, noBra
 use Rattle.loading.specs.declared.LoadKind.{LoadKind}
 use Rattle.loading.specs.declared.LoadKind.the-variants.{DirectCurrent, Transient}
 use Rattle.loading.proofs.Rows.{early-terminals}
-use Rattle.load_resolved.specs.LoadResolved.{numbersFrom, addStored, branchPlaces, storedPlaces, cellsHeld, loadResolvedRows, loadResolvedOf, resolvedRowOf, LoadedResolved}
+use Rattle.resolved_rows.specs.LoadResolved.{numbersFrom, addStored, branchPlaces, storedPlaces, cellsHeld, loadResolvedRows, loadResolvedOf, resolvedRowOf, LoadedResolved}
 use Rattle.load_resolved.specs.ByNumbers.{addBranch, addBranchesStored, historySources}
-use Rattle.load_resolved.proofs.Held.{pairCells, gsCells, gdCells, gbCells, bsCells, bdCells, pairPlaces, gsPlaces, gdPlaces, gbPlaces, bsPlaces, bdPlaces, length-pairs, length-1, length-2, length-3, length-4}
-use Rattle.load_resolved.proofs.Outcomes.{five-early}
+use Rattle.resolved_rows.proofs.Held.{pairCells, gsCells, gdCells, gbCells, bsCells, bdCells, pairPlaces, gsPlaces, gdPlaces, gbPlaces, bsPlaces, bdPlaces, length-pairs, length-1, length-2, length-3, length-4}
+use Rattle.resolved_rows.proofs.Outcomes.{five-early}
 
 -- contributions one after another
 pub added-append : (cs ds : List Contribution) (ps qs : List ℕ) (xs : List Float) → length cs ≡ length ps

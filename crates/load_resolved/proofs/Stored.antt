@@ -17,7 +17,7 @@ use Rattle.places.specs.declared.Nodes.{Nodes}
 use Rattle.adding.specs.Adding.{addAt, addAll}
 use Rattle.adding.proofs.Adding.{add-outside, length-add}
 use Rattle.assembly.specs.Assembly.{Contribution, Place, ground, missing, at, addPlace, paired, conductancePair}
-use Rattle.load_resolved.specs.LoadResolved.{isGround, numbersFrom, grounded, storedPlace, addStored}
+use Rattle.resolved_rows.specs.LoadResolved.{isGround, numbersFrom, grounded, storedPlace, addStored}
 use Rattle.load_resolved.specs.ByNumbers.{placeBetween, addBranch, addBranchesStored, addChannel, addPair, addConductance, channelPairs}
 
 -- a skipped place lies behind the end

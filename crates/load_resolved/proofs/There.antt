@@ -18,9 +18,10 @@ use Rattle.places.specs.Places.{skippedNumber, nodeAt, terminalsAt}
 use Rattle.places.specs.declared.Nodes.{Nodes}
 use Rattle.adding.specs.Adding.{addAt}
 use Rattle.adding.proofs.Adding.{length-add}
-use Rattle.load_resolved.specs.LoadResolved.{numbersFrom, grounded}
-use Rattle.load_resolved.specs.ByNumbers.{cellThere, pairsStored, pairStored, branchStored, branchesStored, conductingStored, allBelow, channelPairs}
-use Rattle.load_resolved.proofs.Below.{below-front, below-back}
+use Rattle.resolved_rows.specs.LoadResolved.{numbersFrom, grounded}
+use Rattle.resolved_rows.specs.ByNumbers.{cellThere, pairsStored, pairStored, branchStored, branchesStored, conductingStored, allBelow}
+use Rattle.load_resolved.specs.ByNumbers.{channelPairs}
+use Rattle.resolved_rows.proofs.Below.{below-front, below-back}
 use Rattle.load_resolved.proofs.Stored.{or-left, or-right}
 
 -- what was below before an addition is so after it

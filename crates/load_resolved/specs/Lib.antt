@@ -1,2 +1,1 @@
-pub mod LoadResolved
 pub mod ByNumbers

@@ -7,9 +7,9 @@ use native.Mathlib.Omega.{arith}
 use lib.Ieee.{Float}
 use Rattle.stamps.specs.Stamps.{jacPairsOf}
 use Rattle.places.specs.Places.{nodesOf, terminalsAt}
-use Rattle.load_resolved.specs.LoadResolved.{numbersFrom}
-use Rattle.load_resolved.specs.ByNumbers.{pairsStored, branchesStored}
-use Rattle.load_resolved.proofs.Known.{pairs-held, branches-held}
+use Rattle.resolved_rows.specs.LoadResolved.{numbersFrom}
+use Rattle.resolved_rows.specs.ByNumbers.{pairsStored, branchesStored}
+use Rattle.resolved_rows.proofs.Known.{pairs-held, branches-held}
 use Rattle.record.specs.declared.DeviceRecord.{DeviceRecord}
 use Rattle.from_record.specs.Devices.{deviceFrom}
 use Rattle.record_loading.specs.Load.{kindFrom, goodLoad}

@@ -14,7 +14,7 @@ use Rattle.adding.specs.Adding.{addSources}
 use Rattle.loading.specs.Loading.{branchesOf, jacobianContributions, rhsContributions, ifDone}
 use Rattle.loading.specs.declared.LoadKind.{LoadKind}
 use Rattle.loading.specs.declared.LoadKind.the-variants.{DirectCurrent, Transient}
-use Rattle.load_resolved.specs.LoadResolved.{addStored, storedPlaces, resolvedRowOf, LoadedResolved}
+use Rattle.resolved_rows.specs.LoadResolved.{addStored, storedPlaces, resolvedRowOf, LoadedResolved}
 use Rattle.load_resolved.proofs.Parts.{refused-row, accepted-row, nodes-back, static-matrix, static-side, transient-matrix, transient-side}
 use Rattle.record.specs.declared.DeviceRecord.{DeviceRecord}
 use Rattle.from_record.specs.Devices.{deviceFrom}

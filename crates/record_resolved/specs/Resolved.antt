@@ -7,7 +7,7 @@ use Rattle.assembly.specs.Assembly.{Pattern, addSources}
 use Rattle.device.specs.Refusals.{Outcome, refused, number}
 use Rattle.loading.specs.Loading.{branchesOf, jacobianContributions, rhsContributions, ifDone}
 use Rattle.resolve.specs.Resolve.{resolveOf}
-use Rattle.load_resolved.specs.LoadResolved.{loadResolvedOf, addStored, storedPlaces}
+use Rattle.resolved_rows.specs.LoadResolved.{loadResolvedOf, addStored, storedPlaces}
 use Rattle.record.specs.declared.DeviceRecord.{DeviceRecord}
 use Rattle.from_record.specs.Devices.{deviceFrom}
 use Rattle.from_record.specs.Tags.{goodTags}

@@ -9,7 +9,7 @@ use Rattle.stamps.specs.Stamps.{jacPairsOf, jacValuesOf, residualOf, chargeBran
 use Rattle.places.specs.Places.{nodesOf, terminalsAt}
 use Rattle.adding.specs.Adding.{addSources, offsetSources}
 use Rattle.assembly.specs.Assembly.{paired}
-use Rattle.load_resolved.specs.LoadResolved.{numbersFrom, addStored, resolvedRowOf}
+use Rattle.resolved_rows.specs.LoadResolved.{numbersFrom, addStored, resolvedRowOf}
 use Rattle.load_resolved.specs.ByNumbers.{addBranchesStored, historySources}
 use Rattle.record.specs.declared.DeviceRecord.{DeviceRecord}
 use Rattle.from_record.specs.Devices.{deviceFrom}

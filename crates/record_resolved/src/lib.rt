@@ -148,7 +148,7 @@ pub fn row(
     let kind = record_loading::kind_from(transient, alpha);
     let n = node_numbers(r.terminals);
     let inside = from_record::indices(r.terminals) < smaller(rhs, cells[6]);
-    record::wide(load_resolved::resolved_row(n, d, kind, inside, cells, rhs, values))
+    record::wide(resolved_rows::resolved_row(n, d, kind, inside, cells, rhs, values))
 }
 
 // The channel, the resistances and the junctions, where no row refuses. `transient` and `alpha` are asked for so that `row` can be said

@@ -23,7 +23,7 @@ use Rattle.assembly.specs.Assembly.{Pattern, allThere, paired, branchCells, mat
 use Rattle.loading.specs.Loading.{nodesOutside, alphaOutside, branchesOf, jacobianContributions, loadOf, ifDone, Loaded}
 use Rattle.loading.specs.declared.LoadKind.{LoadKind}
 use Rattle.resolve.specs.Resolve.{nodeNumbers, gatePairsOf, resolvedCells, numbersFrom, resolveRows, resolveOf}
-use Rattle.load_resolved.specs.LoadResolved.{madeFor, allStored, branchPlaces, storedPlaces, cellsHeld, loadResolvedOf, LoadedResolved}
+use Rattle.resolved_rows.specs.LoadResolved.{madeFor, allStored, branchPlaces, storedPlaces, cellsHeld, loadResolvedOf, LoadedResolved}
 use Rattle.resolved_loads.proofs.SamePlaces.{Within, Same, list-same, join, branch-same}
 
 -- the contributions of a device and the places that were looked up for its nodes

@@ -21,8 +21,8 @@ use Rattle.places.specs.Places.{missingNumber, placeNumber, numberOf, numbersOf
 use Rattle.adding.proofs.Adding.{add-outside}
 use Rattle.assembly.specs.Assembly.{Pattern, Contribution, at, foundPlace, placeOf, addPlace, addCells, there, allThere, paired, conductancePair, branchCells}
 use Rattle.assembly.proofs.Cells.{cells-append, there-append, length-cells}
-use Rattle.load_resolved.specs.LoadResolved.{grounded, storedPlace, addStored, allStored, branchPlaces}
-use Rattle.load_resolved.proofs.Held.{stored-append, length-append}
+use Rattle.resolved_rows.specs.LoadResolved.{grounded, storedPlace, addStored, allStored, branchPlaces}
+use Rattle.resolved_rows.proofs.Held.{stored-append, length-append}
 use Rattle.load_resolved.proofs.Parts.{added-append}
 
 -- every place that the pattern gives lies among n values

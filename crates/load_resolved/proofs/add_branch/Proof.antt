@@ -4,8 +4,9 @@ use mathlib.Core.Bool.{Bool, true}
 use lib.ListN.{length}
 use denote.Ref.{now}
 use Rattle.assembly.specs.Assembly.{branchCells}
-use Rattle.load_resolved.specs.LoadResolved.{addStored, branchPlaces}
-use Rattle.load_resolved.specs.ByNumbers.{branchStored, addBranch, addConductance}
+use Rattle.resolved_rows.specs.LoadResolved.{addStored, branchPlaces}
+use Rattle.resolved_rows.specs.ByNumbers.{branchStored}
+use Rattle.load_resolved.specs.ByNumbers.{addBranch, addConductance}
 use borrow.Author.Needs.{needs}
 use Rattle.load_resolved.proofs.add_branch.Statement.{statement}
 use Rattle.load_resolved.proofs.add_branch.Tie as tie

@@ -5,7 +5,8 @@ use Prim.Native.Nat.{ℕ}
 use native.Mathlib.Omega.{arith}
 use lib.ListN.{length}
 use denote.Ref.{now}
-use Rattle.load_resolved.specs.ByNumbers.{conductingStored, addBranchesStored}
+use Rattle.resolved_rows.specs.ByNumbers.{conductingStored}
+use Rattle.load_resolved.specs.ByNumbers.{addBranchesStored}
 use Rattle.load_resolved.proofs.Stored.{length-branch, length-branches}
 use Rattle.load_resolved.proofs.There.{gs-stored, gd-stored, gb-stored, bs-stored, bd-stored}
 use Rattle.load_resolved.proofs.add_branches.Statement.{statement}

@@ -1,6 +1,6 @@
 -- `load_resolved::add_channel_by_cell`: two rows in turn.
 use Rattle.assembly.specs.Assembly.{paired}
-use Rattle.load_resolved.specs.LoadResolved.{addStored, numbersFrom}
+use Rattle.resolved_rows.specs.LoadResolved.{addStored, numbersFrom}
 use Rattle.load_resolved.specs.ByNumbers.{addChannel, addRow}
 use borrow.Author.Needs.{needs}
 use Rattle.load_resolved.proofs.add_channel_by_cell.Statement.{statement}

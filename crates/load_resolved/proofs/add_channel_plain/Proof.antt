@@ -6,8 +6,8 @@ use native.Mathlib.Omega.{arith}
 use lib.ListN.{length}
 use denote.Ref.{now}
 use Rattle.adding.specs.Adding.{addAll}
-use Rattle.load_resolved.specs.LoadResolved.{numbersFrom}
-use Rattle.load_resolved.specs.ByNumbers.{allBelow}
+use Rattle.resolved_rows.specs.LoadResolved.{numbersFrom}
+use Rattle.resolved_rows.specs.ByNumbers.{allBelow}
 use Rattle.load_resolved.proofs.Stored.{length-row}
 use Rattle.load_resolved.proofs.There.{first-row, second-row}
 use borrow.Author.Needs.{needs}

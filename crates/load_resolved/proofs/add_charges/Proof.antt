@@ -7,7 +7,8 @@ use Rattle.stamps.specs.declared.ChargeBranches.{ChargeBranches}
 use Rattle.places.specs.Places.{nodesOf}
 use Rattle.places.specs.declared.Nodes.{Nodes}
 use Rattle.adding.specs.Adding.{addSources}
-use Rattle.load_resolved.specs.ByNumbers.{conductingStored, addBranchesStored, historySources}
+use Rattle.resolved_rows.specs.ByNumbers.{conductingStored}
+use Rattle.load_resolved.specs.ByNumbers.{addBranchesStored, historySources}
 use Rattle.load_resolved.proofs.There.{conducting-is}
 use borrow.Author.Needs.{needs}
 use Rattle.load_resolved.proofs.add_charges.Statement.{statement}

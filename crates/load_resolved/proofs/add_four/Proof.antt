@@ -4,7 +4,7 @@ use Prim.Native.Nat.{_<_}
 use lib.ListN.{length}
 use denote.Ref.{now}
 use Rattle.assembly.specs.Assembly.{conductancePair}
-use Rattle.load_resolved.specs.LoadResolved.{addStored}
+use Rattle.resolved_rows.specs.LoadResolved.{addStored}
 use Rattle.load_resolved.specs.ByNumbers.{addConductance}
 use Rattle.load_resolved.proofs.Stored.{conductance-plain}
 use Rattle.load_resolved.proofs.There.{still-below, branch-known}

@@ -7,8 +7,8 @@ use lib.ListN.{length}
 use denote.Ref.{now}
 use Rattle.stamps.specs.Stamps.{jacPairsOf}
 use Rattle.places.specs.Places.{terminalsAt}
-use Rattle.load_resolved.specs.LoadResolved.{numbersFrom}
-use Rattle.load_resolved.specs.ByNumbers.{pairsStored}
+use Rattle.resolved_rows.specs.LoadResolved.{numbersFrom}
+use Rattle.resolved_rows.specs.ByNumbers.{pairsStored}
 use Rattle.load_resolved.proofs.Stored.{length-stored, length-channel, length-pair, jacobian-parts}
 use Rattle.load_resolved.proofs.There.{channel-there, rd-there, rs-there, bs-there, bd-there}
 use Rattle.load_resolved.proofs.add_jacobian.Statement.{statement}

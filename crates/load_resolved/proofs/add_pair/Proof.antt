@@ -4,7 +4,7 @@ use Prim.Native.Nat.{_<_}
 use lib.ListN.{length}
 use denote.Ref.{now}
 use Rattle.assembly.specs.Assembly.{paired}
-use Rattle.load_resolved.specs.LoadResolved.{addStored}
+use Rattle.resolved_rows.specs.LoadResolved.{addStored}
 use Rattle.load_resolved.specs.ByNumbers.{addPair}
 use Rattle.load_resolved.proofs.Stored.{pair-plain}
 use Rattle.load_resolved.proofs.There.{still-below, pair-known}

@@ -9,8 +9,8 @@ use Rattle.places.specs.Places.{nodesOf, terminalsAt}
 use Rattle.places.specs.declared.Nodes.{Nodes}
 use Rattle.adding.specs.Adding.{addSources, offsetSources}
 use Rattle.assembly.specs.Assembly.{paired}
-use Rattle.load_resolved.specs.LoadResolved.{numbersFrom, addStored}
-use Rattle.load_resolved.specs.ByNumbers.{pairsStored}
+use Rattle.resolved_rows.specs.LoadResolved.{numbersFrom, addStored}
+use Rattle.resolved_rows.specs.ByNumbers.{pairsStored}
 use borrow.Author.Needs.{needs}
 use Rattle.load_resolved.proofs.add_static.Statement.{statement}
 use Rattle.load_resolved.proofs.add_static.Tie as tie

@@ -12,11 +12,12 @@ use Rattle.places.specs.Places.{skippedNumber, nodesOf}
 use Rattle.adding.specs.Adding.{addSources}
 use Rattle.loading.specs.Loading.{branchesOf, jacobianContributions, rhsContributions}
 use Rattle.loading.specs.declared.LoadKind.{LoadKind}
-use Rattle.load_resolved.specs.LoadResolved.{addStored, storedPlaces, resolvedRowOf}
-use Rattle.load_resolved.specs.ByNumbers.{branchesStored, addBranchesStored, historySources}
+use Rattle.resolved_rows.specs.LoadResolved.{addStored, storedPlaces, resolvedRowOf}
+use Rattle.resolved_rows.specs.ByNumbers.{branchesStored}
+use Rattle.load_resolved.specs.ByNumbers.{addBranchesStored, historySources}
 use Rattle.load_resolved.proofs.Stored.{length-stored}
 use Rattle.load_resolved.proofs.Parts.{refused-row, accepted-row, nodes-back, static-matrix, static-side, transient-matrix, transient-side}
-use Rattle.load_resolved.proofs.Known.{pairs-held, branches-held}
+use Rattle.resolved_rows.proofs.Known.{pairs-held, branches-held}
 use borrow.Author.Needs.{needs}
 use Rattle.load_resolved.proofs.load_resolved.Statement.{statement}
 use Rattle.load_resolved.proofs.load_resolved.Tie as tie

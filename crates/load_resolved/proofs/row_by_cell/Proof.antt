@@ -1,6 +1,6 @@
 -- `load_resolved::row_by_cell`: four additions in turn.
 use Rattle.assembly.specs.Assembly.{paired}
-use Rattle.load_resolved.specs.LoadResolved.{addStored}
+use Rattle.resolved_rows.specs.LoadResolved.{addStored}
 use Rattle.load_resolved.specs.ByNumbers.{addRow}
 use borrow.Author.Needs.{needs}
 use Rattle.load_resolved.proofs.row_by_cell.Statement.{statement}

@@ -1,0 +1,41 @@
+-- `resolved_rows::four_there`.
+use borrow.Author.Needs.{needs}
+use Rattle.resolved_rows.proofs.four_there.Statement.{statement}
+use Rattle.resolved_rows.proofs.four_there.Tie as tie
+
+add-cell-at : tie.Need-add-cell-at
+add-cell-at c = search needs
+
+cell-at-requires : tie.Need-cell-at-requires
+cell-at-requires c κs = search needs
+
+add-cell-at-2 : tie.Need-add-cell-at-2
+add-cell-at-2 c = search needs
+
+cell-at-requires-2 : tie.Need-cell-at-requires-2
+cell-at-requires-2 c κs = search needs
+
+add-cell-at-3 : tie.Need-add-cell-at-3
+add-cell-at-3 c = search needs
+
+cell-at-requires-3 : tie.Need-cell-at-requires-3
+cell-at-requires-3 c κs = search needs
+
+cell-at-requires-4 : tie.Need-cell-at-requires-4
+cell-at-requires-4 c κs = search needs
+
+returns : tie.Need-returns
+returns c = rw (c .cell-at4 .ensures, c .before .cell-at3 .ensures, c .before .before .cell-at2 .ensures, c .before .before .before .cell-at .ensures)
+
+pub four-there-spec : {M : Type 1} → statement M
+four-there-spec =
+    tie.close
+    (tie.spec
+    add-cell-at
+    cell-at-requires
+    add-cell-at-2
+    cell-at-requires-2
+    add-cell-at-3
+    cell-at-requires-3
+    cell-at-requires-4
+    returns)

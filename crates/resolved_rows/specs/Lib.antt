@@ -1,0 +1,2 @@
+pub mod LoadResolved
+pub mod ByNumbers
