@@ -8,7 +8,7 @@ use lib.IntN.{ℤ, pos}
 use lib.Ieee.{Float, nan, inf, fin, lt, eq, ofBits, up, down}
 use lib.Ieee.Fits.{up-pos, down-pos, and-l, and-r}
 use borrow.Author.Tests.{lt-ltb}
-use Rattle.exact.specs.Float64.{_<f_, _=f_, +0, +1}
+use Rattle.exact.specs.Float64.{_=f_, +1}
 use Rattle.logarithm.specs.Logarithm.{logOf}
 use Rattle.logarithm.specs.declared.Log.{Log}
 use Rattle.logarithm.specs.declared.Log.the-variants.{BaseOne}
