@@ -1,0 +1,4 @@
+pub mod Counts
+pub mod Fits
+pub mod Outcomes
+pub mod WorkedCases

@@ -1,0 +1,2 @@
+pub mod CellPattern
+pub mod Steps
