@@ -7,8 +7,9 @@
 
 The same arguments give the same text. A script is a sequence of devices. Each is given a card, a geometry, a scaling, a binding and then
 a list of evaluations, loads, commits, noises and reactances, with calls out of order, damaged calls and damaged lines in between. Cells are
-looked up in right and damaged patterns, and loaded by after other lookups, bindings and devices. Values come from inside the ranges, their
-ends, the ends' neighbours and the odd numbers of the format.
+looked up in right and damaged patterns, and loaded by after other lookups, bindings and devices. They are laid out in slices that are short,
+exact and longer, and loads and lookups are made on what is laid out; the list has this in its fixed part alone. Values come from inside the
+ranges, their ends, the ends' neighbours and the odd numbers of the format.
 """
 import math
 import random
@@ -16,6 +17,7 @@ import struct
 import sys
 
 import elementary_calls
+import layout_calls
 import load_calls
 import resolved_calls
 import setup_calls
@@ -36,10 +38,12 @@ FUNCTIONS = {"exp": 1, "ln": 1, "ln_1p": 1, "sqrt": 1, "vt": 1, "bandgap_ev": 1,
 
 
 class Script:
-    def __init__(self, seed, states=1.0):
+    def __init__(self, seed, states=1.0, layouts=True):
         self.r = random.Random(seed)
         self.states = states
+        self.layouts = ["extra", "cells"] if layouts else []  # the calls of a layout
         self.lines = []
+        self.given = {}  # what the last card and the geometries since gave
         self.bound = None  # the last binding
         self.sizes = (0, 0)  # rows and values of the last lookup
 
@@ -206,15 +210,23 @@ class Script:
                 made += [("gamma", 6.0), ("phi", 4.0)]
             made += [(k, v) for k, v in self.keys(CARD, USUAL, 0.3, 0) if k.lower() not in ("vto", "vth0", "vtho", "kp", "uo", "u0", "lambda", "gamma", "phi", "tnom")]
             self.plain("card " + self.pol, made)
+            self.remember(made, CARD)
             return
         self.exact = False
         made = self.key_call("card " + self.pol, CARD, USUAL, r.choice([0.1, 0.4, 0.7, 0.9]), damage)
         for key, value in made:
             if key.lower() == "tnom" and value == value:
                 self.tnom = value + 273.15
+        self.remember(made, CARD)
+
+    def remember(self, made, ranges):
+        """The keys as if the call was accepted."""
+        if ranges is CARD:
+            self.given = {}
+        self.given.update((k.lower(), v) for k, v in made if k.lower() in ranges)
 
     def geometry(self, damage=0.01):
-        self.key_call("geometry", GEOMETRY, USUAL_GEOMETRY, self.r.choice([0.2, 0.6, 1.0]), damage)
+        self.remember(self.key_call("geometry", GEOMETRY, USUAL_GEOMETRY, self.r.choice([0.2, 0.6, 1.0]), damage), GEOMETRY)
 
     def scale(self, damage=0.03):
         self.add("scale " + number(300.15 if self.exact and self.r.random() < 0.7 else self.kelvin(damage)))
@@ -240,6 +252,13 @@ class Script:
         self.add("bind %s %d" % (" ".join("-" if n is None else str(n) for n in four), first))
         # The inner nodes are in the answer; both are counted here, whether they are made or not.
         self.nodes = four + [first, first + 1]
+
+    def terminals(self):
+        """The outer nodes and the inner drain and source, if the last calls were accepted; before a binding, of one that is usual."""
+        d, g, s, b, first, after = self.nodes or [0, 1, 2, 3, 4, 5]
+        sheet = self.given.get("rsh", 0.0)
+        has_drain, has_source = (self.given.get("r" + end, sheet * self.given.get("nr" + end, 1.0)) > 0 for end in "ds")
+        return d, g, s, b, first if has_drain else d, (after if has_drain else first) if has_source else s
 
     def length(self):
         """Room for every node that a device of this size can have, or a little less."""
@@ -363,6 +382,53 @@ class Script:
             count = max(0, count + r.choice([-count, -1, 1]))
         self.add("loadresolved %s %s %s" % (self.load_kind(kind), numbers(self.contents(rows)), numbers(self.contents(count))))
 
+    def extra(self):
+        self.add("extra" if self.r.random() < 0.97 else self.r.choice(["extra 0", "extra -", "extras"]))
+
+    def lent(self, needed, most):
+        """A slice to be laid out in, most often with room, its numbers up to `most`."""
+        r = self.r
+        n = max(0, needed + r.choice([0, 0, 0, 0, 1, 1, 3, 20, -1])) if r.random() < 0.95 else r.choice([0, 1, needed // 2])
+        n = min(n, 4096)
+        return [r.choice([0, 1, 7, most, r.randint(0, most)]) if n < 100 else 0 for _ in range(n)]
+
+    def cells(self):
+        """A layout, at times of damaged slices, and then at times a lookup and a load on what it lays out."""
+        r = self.r
+        nodes = self.terminals()
+        rows, cells = layout_calls.rows_to(nodes), load_calls.needed(nodes, True)
+        slices = [self.lent(len(cells), 2**32 - 1), self.lent(rows, 2**64 - 1), self.lent(rows, 2**64 - 1)]
+        words = [wholes(held) for held in slices]
+        if r.random() < 0.08:
+            words = self.damage_slices(words)
+        self.add("cells " + " ".join(words))
+        if rows < 100 and r.random() < 0.4:
+            self.use_layout(*load_calls.pattern(cells, rows))
+
+    def damage_slices(self, words):
+        r = self.r
+        at = r.randrange(3)
+        kind = r.randrange(4)
+        if kind == 0:
+            words[0] = str(r.choice([2**32, 2**32 + 1, 2**64 - 1, 2**64])) + ("," + words[0]) * (words[0] != "-")
+        elif kind == 1:
+            words[at] = r.choice([words[at] + ",", "," + words[at], words[at] + ":0", words[at] + ",-", "-,-", "--", str(2**64), "nan", "+1", "-1"])
+        elif kind == 2:
+            words.pop(at)
+        else:
+            words.insert(at, r.choice(["-", "0", words[at]]))
+        return words
+
+    def use_layout(self, columns, spans):
+        """A lookup, a load or both on a pattern."""
+        used = self.r.choice(["resolve", "load", "both"])
+        if used != "load":
+            self.sizes = (len(spans), len(columns))
+            self.add("resolve %s %s" % (wholes(columns), pairs(spans)))
+        if used != "resolve":
+            sides, values = self.contents(len(spans)), self.contents(len(columns))
+            self.add("load %s %s %s %s %s" % (self.load_kind(None), numbers(sides), wholes(columns), pairs(spans), numbers(values)))
+
     def damage_matrix(self, columns, spans, values):
         r = self.r
         kind = r.randrange(6)
@@ -453,7 +519,7 @@ class Script:
         """Lists and lines at the format's limits."""
         r = self.r
         n = r.choice([4095, 4096, 4097])
-        kind = r.randrange(7)
+        kind = r.randrange(8)
         if kind == 0:
             self.add("commit " + ",".join(["nan"] * n), False)
         elif kind == 1:
@@ -467,6 +533,10 @@ class Script:
             self.add("load dc - %s - -" % ",".join(["1"] * n), False)
         elif kind == 5:
             self.add("load dc %s %s %s %s" % tuple(",".join([w] * n) for w in ("nan", "0", "0:0", "nan")), False)
+        elif kind == 6:
+            slices = ["7"] * 3
+            slices[r.randrange(3)] = ",".join(["0"] * n)
+            self.add("cells " + " ".join(slices), False)
         else:
             self.add("eval dc %s %s nolim none %s" % (number(300.0), number(0.0), ",".join(["nan"] * n)), False)
 
@@ -474,6 +544,7 @@ class Script:
         r = self.r
         chosen = {"eval": 30, "load": 24, "resolve": 5, "loadresolved": 16, "commit": 12, "noise": 6, "reactances": 4, "scale": 4, "geometry": 1,
                   "bind": 1, "call": 6, "damaged_line": 3}
+        chosen.update(zip(self.layouts, (2, 8)))
         getattr(self, r.choices(list(chosen), list(chosen.values()))[0])()
 
     def reactances(self):
@@ -487,7 +558,8 @@ class Script:
             self.add("reset")
             self.exact, self.tnom = False, 300.15
             for _ in range(r.randrange(5)):
-                getattr(self, r.choice(["eval", "load", "resolve", "loadresolved", "commit", "noise", "reactances", "scale", "geometry", "bind"]))()
+                calls = ["eval", "load", "resolve", "loadresolved", "commit", "noise", "reactances", "scale", "geometry", "bind"]
+                getattr(self, r.choice(calls + self.layouts))()
         if r.random() < 0.3:
             self.card(0.05)
         self.card(0)
@@ -499,6 +571,9 @@ class Script:
         if r.random() < 0.15:
             others = [self.geometry, self.scale, self.bind, self.eval, self.load, self.resolve, self.loadresolved, self.commit, self.noise, self.reactances]
             steps.insert(r.randrange(4), r.choice(others))
+        for name in self.layouts:
+            if r.random() < 0.3:
+                steps.insert(r.randrange(len(steps) + 1), getattr(self, name))
         if r.random() < 0.05:
             r.shuffle(steps)
         for step in steps:
@@ -558,7 +633,7 @@ def seldom():
 def fixed():
     """Lists that were thought out for one part each."""
     yield from ["reset", *elementary_calls.calls(), *temperature_calls.calls()]
-    yield from ["reset", *setup_calls.calls(), *load_calls.calls(), *resolved_calls.calls()]
+    yield from ["reset", *setup_calls.calls(), *load_calls.calls(), *resolved_calls.calls(), *layout_calls.calls()]
 
 
 def curve(seed, count):
@@ -584,7 +659,7 @@ def main():
     if kind == "curve":
         lines = curve(seed, count)
     elif kind == "list":
-        lines = [*seldom(), *Script(seed, 0.06).run(count), *fixed()]
+        lines = [*seldom(), *Script(seed, 0.06, False).run(count), *fixed()]
     else:
         lines = Script(seed).run(count)
     sys.stdout.write("".join(line + "\n" for line in lines))

@@ -28,6 +28,18 @@ impl Written for Option<f64> {
     }
 }
 
+impl Written for u32 {
+    fn written(&self) -> String {
+        self.to_string()
+    }
+}
+
+impl Written for u64 {
+    fn written(&self) -> String {
+        self.to_string()
+    }
+}
+
 impl Written for NodeId {
     fn written(&self) -> String {
         self.map_or("-".to_string(), |node| node.to_string())
@@ -47,7 +59,7 @@ impl Written for Option<Discretisation> {
     }
 }
 
-impl Written for [f64] {
+impl<T: Written> Written for [T] {
     fn written(&self) -> String {
         if self.is_empty() {
             return "-".to_string();

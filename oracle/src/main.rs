@@ -9,6 +9,7 @@ mod arithmetic;
 mod curve;
 mod format;
 mod functions;
+mod layout;
 mod rows;
 mod runner;
 
@@ -16,6 +17,7 @@ use std::io::{BufRead, Write};
 use std::panic::{catch_unwind, AssertUnwindSafe};
 
 use format::{bytes, column, list, method, node, number, pair, split_at_mark, whole};
+use layout::Lent;
 use rows::{Keys, Matrix};
 use runner::{Answer, Conditions, Runner};
 
@@ -68,6 +70,12 @@ fn answer(runner: &mut Runner, words: &[&[u8]]) -> Option<String> {
         [b"geometryraw", keys @ ..] => runner.geometry(&raw_keys(keys)?),
         [b"scale", kelvin] => runner.scale(number(kelvin)?),
         [b"bind", d, g, s, b, first] => runner.bind([node(d)?, node(g)?, node(s)?, node(b)?], whole(first)?),
+        [b"extra"] => runner.extra(),
+        [b"cells", columns, offsets, lengths] => {
+            let lent =
+                Lent { columns: list(columns, column)?, offsets: list(offsets, whole)?, lengths: list(lengths, whole)? };
+            runner.lay_out(lent)
+        }
         [b"eval", kind, kelvin, gmin, limiter, how, x] => {
             let conditions = Conditions {
                 transient: one_of(kind, b"tran", b"dc")?,

@@ -2,8 +2,8 @@
 //!
 //! Each call's function goes through its rows in the order of their numbers, so that the lowest that applies is the one answered. A row
 //! that speaks of something that does not exist yet does not apply. Of the Rust it takes only what the paper points to: the `MOSFET`
-//! list, `scaled_phi` and `scaled_junction_potential`, and the device's nodes, cells and capacitances. The rows of a lookup of cells
-//! and of a load by them are not the paper's but those of docs/USING.md.
+//! list, `scaled_phi` and `scaled_junction_potential`, and the device's nodes, cells and capacitances. The rows of the number of extra
+//! nodes, of a layout of cells, of a lookup of them and of a load by them are not the paper's but those of docs/USING.md.
 
 use crate::device::{Discretisation, NodeId};
 use crate::mosfet1::inside::View;
@@ -197,6 +197,17 @@ pub fn binding_nodes(device: Option<&View>, four: [NodeId; 4], first: u64) -> [O
 pub fn binding(stage: Stage, nodes: &[Option<u128>; 6]) -> Row {
     row(8, nodes.iter().flatten().any(|node| *node > u128::from(u32::MAX)))?;
     row(10, stage < Stage::Scaled || stage >= Stage::Evaluated)
+}
+
+pub fn extra(stage: Stage) -> Row {
+    row(10, stage < Stage::Geometry)
+}
+
+/// A layout of the cells. No binding of a script sets a node that row 8 refuses here.
+pub fn layout(stage: Stage, device: Option<&View>) -> Row {
+    let bound = device.filter(|_| stage >= Stage::Bound);
+    row(8, bound.is_some_and(|d| d.nodes.iter().flatten().any(|node| *node > u32::MAX as usize)))?;
+    row(10, bound.is_none())
 }
 
 fn beyond(nodes: &[NodeId], length: usize) -> bool {

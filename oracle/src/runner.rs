@@ -1,9 +1,11 @@
 //! One device, its stage, and the calls of a script on it.
 
+use std::collections::BTreeSet;
 use std::sync::Arc;
 
 use crate::device::{Device, Discretisation, EvalFlags, NodeId, SimContext};
 use crate::format::Written;
+use crate::layout::{Layout, Lent};
 use crate::mna::{inside::pattern_of, MnaMatrix};
 use crate::mosfet1::{inside::View, Mosfet1};
 use crate::rows::{self, Cells, Keys, Matrix, Position, Stage, Table};
@@ -93,6 +95,43 @@ impl Runner {
         let bound = device.view().nodes;
         assert_eq!(bound.map(|node| node.map(|n| n as u128)), nodes, "the nodes that row 8 tested");
         Ok(format!("bind {extra} {} {}", bound[0].written(), bound[2].written()))
+    }
+
+    pub fn extra(&mut self) -> Answer {
+        rows::extra(self.stage)?;
+        Ok(format!("extra {}", self.accepted(Stage::Geometry).num_extra_nodes()))
+    }
+
+    /// Lays the cells out if the lent slices have room.
+    pub fn lay_out(&mut self, mut lent: Lent) -> Answer {
+        rows::layout(self.stage, self.view().as_ref())?;
+        let layout = Layout::of(&self.accepted(Stage::Bound).view());
+        if layout.fits(&lent) {
+            layout.write(&mut lent);
+            if self.stage >= Stage::Evaluated {
+                self.load_on(&layout, layout.matrix(&lent));
+            }
+        }
+        let slices = [lent.columns[..].written(), lent.offsets[..].written(), lent.lengths[..].written()];
+        Ok(format!("cells {} {} {}", layout.cells.len(), layout.rows, slices.join(" ")))
+    }
+
+    /// Loads of both kinds on what was laid out. No row refuses them, the Rust finds each of its cells there, and without a pattern it
+    /// makes none but those of the layout: all of them where every charge branch has a capacitance. Of the device only the places that
+    /// the Rust found last change, which it looks up anew for each load here.
+    fn load_on(&mut self, layout: &Layout, matrix: Matrix) {
+        for alpha in [None, Some(1.0)] {
+            let mut rhs = vec![0.0; layout.rows];
+            let refused = rows::load(self.stage, self.view().as_ref(), alpha, &rhs, &matrix);
+            assert_eq!(refused, Ok(()), "a load on the cells laid out");
+            let device = self.accepted(Stage::Evaluated);
+            load_residual(device, alpha, &mut rhs);
+            loaded(device, alpha, &matrix);
+            let made = made_cells(device, alpha, layout.rows);
+            assert!(made.is_subset(&layout.cells), "a cell that is not laid out");
+            let every_branch = alpha.is_some() && device.view().branches.iter().all(|(_, _, c)| *c != 0.0);
+            assert!(!every_branch || made == layout.cells, "a cell that no load needs");
+        }
     }
 
     pub fn eval(&mut self, k: Conditions, x: &[f64]) -> Answer {
@@ -210,6 +249,14 @@ fn loaded_at(device: &Mosfet1, alpha: Option<f64>, kept: &[(Position, u64)], val
         loaded[*place] = made.a[*r][*c];
     }
     loaded
+}
+
+/// The cells that the load makes in a matrix that has none.
+fn made_cells(device: &Mosfet1, alpha: Option<f64>, rows: usize) -> BTreeSet<(usize, usize)> {
+    let mut made = MnaMatrix::zeros(rows);
+    load_jacobian(device, alpha, &mut made);
+    let cells_of = |r: usize| made.a[r].entries().0.iter().map(move |column| (r, *column as usize));
+    (0..rows).flat_map(cells_of).collect()
 }
 
 /// The matrix's values after the load. The Rust writes a cell by searching its row, or at a place that it found once for a pattern:
