@@ -32,22 +32,22 @@ pub record Keeps (P : Mosfet1 → Type 0) : Type 0 where
   pub evaluated : (d : Mosfet1) (x : List Float) (transient : Bool) (k : Conditions) (e : Evaluated) → IsF64 (evaluation x transient k) → evalOf d x transient k ≡ done e → P d → P (e .device)
   pub committed : (d : Mosfet1) (x : List Float) (e : Mosfet1) → Every F64 x → commitOf d x ≡ done e → P d → P e
 
-geometry-keeps : (P : Mosfet1 → Type 0) (d : Mosfet1) (list : List ℕ) (a : Outcome Keyed) → ((k : Keyed) → a ≡ done k → P (k .device)) → P d → P (deviceLeft d (geometryAnswer a list))
+pub geometry-keeps : (P : Mosfet1 → Type 0) (d : Mosfet1) (list : List ℕ) (a : Outcome Keyed) → ((k : Keyed) → a ≡ done k → P (k .device)) → P d → P (deviceLeft d (geometryAnswer a list))
 unfolding deviceLeft
 geometry-keeps P d list (done k) kept p = kept k refl
 geometry-keeps P d list (refused n) kept p = p
 
-setup-keeps : (P : Mosfet1 → Type 0) (d : Mosfet1) (a : Outcome Mosfet1) → ((e : Mosfet1) → a ≡ done e → P e) → P d → P (deviceLeft d (setupAnswer a))
+pub setup-keeps : (P : Mosfet1 → Type 0) (d : Mosfet1) (a : Outcome Mosfet1) → ((e : Mosfet1) → a ≡ done e → P e) → P d → P (deviceLeft d (setupAnswer a))
 unfolding deviceLeft
 setup-keeps P d (done e) kept p = kept e refl
 setup-keeps P d (refused n) kept p = p
 
-evaluation-keeps : (P : Mosfet1 → Type 0) (d : Mosfet1) (a : Outcome Evaluated) → ((e : Evaluated) → a ≡ done e → P (e .device)) → P d → P (deviceLeft d (evaluationAnswer a))
+pub evaluation-keeps : (P : Mosfet1 → Type 0) (d : Mosfet1) (a : Outcome Evaluated) → ((e : Evaluated) → a ≡ done e → P (e .device)) → P d → P (deviceLeft d (evaluationAnswer a))
 unfolding deviceLeft
 evaluation-keeps P d (done e) kept p = kept e refl
 evaluation-keeps P d (refused n) kept p = p
 
-commit-keeps : (P : Mosfet1 → Type 0) (d : Mosfet1) (a : Outcome Mosfet1) → ((e : Mosfet1) → a ≡ done e → P e) → P d → P (deviceLeft d (commitAnswer a))
+pub commit-keeps : (P : Mosfet1 → Type 0) (d : Mosfet1) (a : Outcome Mosfet1) → ((e : Mosfet1) → a ≡ done e → P e) → P d → P (deviceLeft d (commitAnswer a))
 unfolding deviceLeft
 commit-keeps P d (done e) kept p = kept e refl
 commit-keeps P d (refused n) kept p = p

@@ -1,0 +1,4 @@
+pub mod Contributions
+pub mod Laid
+pub mod Binding
+pub mod Loads
