@@ -11,7 +11,6 @@ use lib.Seq.{slice}
 use lib.Dec.{leb, ltb}
 use borrow.Author.Tests.{le-leb, eq-eqb, ltb-true, ltb-false}
 use Rattle.pattern.specs.Pattern.{risingAfter, rising, pairsFit, wellFormed, placeIn, cellOf}
-use Rattle.pattern.specs.declared.Found.{Found}
 use Rattle.pattern.specs.declared.Found.the-variants.{At}
 use Rattle.pattern.proofs.Rows.{rise-start, rise-more, rise-end, rise-none}
 use Rattle.pattern.proofs.Places.{places-found}

@@ -30,6 +30,7 @@ fn column_of(cell: u64) -> u32
     (cell % 4294967296) as u32
 }
 
+// The columns of the cells, in front of what the slice held.
 fn write_columns(cells: &[u64], columns: &mut [u32])
     requires { ⌜ length (now cells) ≤ length (now columns) ⌝ }
     ensures { λ r. ⌜ now (columns .exit) ≡ over (columnsIn (now (cells .entry))) (now (columns .entry)) ⌝ }
@@ -56,6 +57,7 @@ fn row_end(cells: &[u64], at: usize, row: usize) -> usize
     i
 }
 
+// The offsets and lengths of so many rows from 0 on, in one pass over the rising cells.
 fn write_rows(cells: &[u64], rows: usize, offsets: &mut [usize], lengths: &mut [usize])
     requires { ⌜ (rising (now cells) ≡ true) × ((rows ≤ length (now offsets)) × (rows ≤ length (now lengths))) ⌝ }
     ensures { λ r. ⌜ (now (offsets .exit) ≡ over (runningOffsets 0 (lengthsIn (now (cells .entry)) 0 rows)) (now (offsets .entry))) × (now (lengths .exit) ≡ over (lengthsIn (now (cells .entry)) 0 rows) (now (lengths .entry))) ⌝ }
@@ -71,6 +73,7 @@ fn write_rows(cells: &[u64], rows: usize, offsets: &mut [usize], lengths: &mut [
     }
 }
 
+// Whether each of the three slices is long enough for so many cells and rows.
 fn have_room(cells: usize, rows: usize, columns: usize, offsets: usize, lengths: usize) -> bool
     ensures { λ r. ⌜ r ≡ haveRoom cells rows columns offsets lengths ⌝ }
 {
@@ -106,6 +109,7 @@ fn write(
     }
 }
 
+// The rows up to a node, its own among them.
 fn rows_to(node: NodeId) -> usize
     requires { ⌜ nodeBeyond rowWidth node ≡ false ⌝ }
     ensures { λ r. ⌜ r ≡ rowsTo node ⌝ }

@@ -1,4 +1,4 @@
--- How many cells there can be: 22, and 16 where no series resistance makes an inner node.
+-- How many cells there can be: 22, and 16 where no series resistance makes an inner node. With it all is said of the list.
 use mathlib.Core.Path.{_≡_, refl, sym, ap, _∙_, subst}
 use mathlib.Core.Bool.{Bool, true, false, cond, _||_}
 use mathlib.Core.List.{List, [], _∷_}
@@ -9,14 +9,15 @@ use lib.Dec.{T, eqb, ltb}
 use borrow.Author.Tests.{eq-eqb, ltb-true, eqb-true}
 use Rattle.pattern.specs.Pattern.{risingAfter, rising}
 use Rattle.pattern.proofs.Rows.{and-left, and-right}
+use Rattle.device.specs.Nodes.{anyNodeBeyond}
 use Rattle.device.specs.declared.NodeId.{NodeId}
 use Rattle.device.specs.declared.NodeId.the-variants.{Ground, At}
 use Rattle.device.specs.declared.Terminals.{Terminals}
 use Rattle.stamps.specs.Stamps.{position, jacPairsOf}
 use Rattle.stamps.specs.declared.Position.{Position}
-use Rattle.cells.specs.Cells.{cellNumber, cellBefore, cellNumbers, positionsOf, cellsOf, holds}
-use Rattle.cells.proofs.Order.{rising-tail}
-use Rattle.cells.proofs.Members.{cells-rise, cells-hold}
+use Rattle.cells.specs.Cells.{rowWidth, ListsTheCells, cellNumber, cellBefore, cellNumbers, positionsOf, cellsOf, holds}
+use Rattle.cells.proofs.Order.{rising-tail, by-row-then-column}
+use Rattle.cells.proofs.Members.{cells-rise, cells-hold, cell-named}
 
 -- a list without one of its numbers
 without : ℕ → List ℕ → List ℕ
@@ -139,3 +140,13 @@ at-most-16 t d s =
     (0 ∷ 1 ∷ 2 ∷ 3 ∷ 4 ∷ 5 ∷ 6 ∷ 7 ∷ 1 ∷ 1 ∷ 1 ∷ 1 ∷ 6 ∷ 6 ∷ 6 ∷ 6 ∷ 8 ∷ 9 ∷ 7 ∷ 6 ∷ 8 ∷ 10 ∷ 3 ∷ 1 ∷ 11 ∷ 12 ∷ 6 ∷ 4 ∷ 11 ∷ 13 ∷ 1 ∷ 0 ∷ 11 ∷ 14 ∷ 8 ∷ 15 ∷ 8 ∷ 9 ∷ 6 ∷ 7 ∷ 8 ∷ 10 ∷ 1 ∷ 3 ∷ [])
     (position (t .drain) (t .gate) ∷ position (t .drain) (t .drain) ∷ position (t .drain) (t .source) ∷ position (t .drain) (t .bulk) ∷ position (t .source) (t .gate) ∷ position (t .source) (t .drain) ∷ position (t .source) (t .source) ∷ position (t .source) (t .bulk) ∷ position (t .bulk) (t .bulk) ∷ position (t .bulk) (t .source) ∷ position (t .bulk) (t .drain) ∷ position (t .gate) (t .gate) ∷ position (t .gate) (t .source) ∷ position (t .gate) (t .drain) ∷ position (t .gate) (t .bulk) ∷ position (t .bulk) (t .gate) ∷ [])
     (rw (d, s))
+
+-- 02: the list is sorted, has no cell twice, and holds a cell if and only if it is named
+pub lists-the-cells : (t : Terminals) → anyNodeBeyond rowWidth t ≡ false → ListsTheCells t
+lists-the-cells t w = record {
+  rises = cells-rise t;
+  order = by-row-then-column;
+  exact = λ r c h. cell-named r c h t w;
+  most = at-most-22 t;
+  fewer = at-most-16 t;
+}

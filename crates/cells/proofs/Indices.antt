@@ -14,7 +14,7 @@ use Rattle.device.specs.declared.Terminals.{Terminals}
 use Rattle.stamps.specs.Stamps.{jacPairsOf}
 use Rattle.stamps.specs.declared.Position.{Position}
 use Rattle.places.specs.Places.{indexOf, skippedNumber}
-use Rattle.cells.specs.Cells.{rowWidth, positionsOf, cellNumber, cellBefore, cellNumbers, insertOf, insertAllOf}
+use Rattle.cells.specs.Cells.{rowWidth, positionsOf, cellNumber, cellBefore, cellNumbers, insertAllOf}
 use Rattle.cells.specs.Steps.{rowIndices, columnIndices, carryCellOf, carryCellsOf}
 use Rattle.cells.proofs.Insertion.{skip-row, skip-column, put-cell}
 use Rattle.cells.proofs.Order.{carry-inserts, insert-rises}

@@ -1,9 +1,12 @@
 -- The cells that a device may ever load, by its six nodes alone. Document 02, Wish 1: "the full list of cells: the 24 pairs and the four cells
 -- of each charge branch, ground left out. It is sorted by row then column, each cell named a single time".
-use Prim.Native.Nat.{ℕ, _+_, _*_}
-use mathlib.Core.Bool.{Bool, false, cond, _&&_, _||_}
+use Prim.Native.Nat.{ℕ, _+_, _*_, _<_, _≤_}
+use mathlib.Core.Path.{_≡_}
+use mathlib.Core.Bool.{Bool, true, false, cond, _&&_, _||_}
 use mathlib.Core.List.{List, [], _∷_, _++_}
+use lib.ListN.{length}
 use lib.Dec.{ltb, eqb}
+use Rattle.pattern.specs.Pattern.{rising}
 use Rattle.device.specs.declared.NodeId.{NodeId}
 use Rattle.device.specs.declared.NodeId.the-variants.{Ground, At}
 use Rattle.device.specs.declared.Terminals.{Terminals}
@@ -52,11 +55,12 @@ insertAllOf (x ∷ xs) list = insertAllOf xs (insertOf x list)
 unfoldable pub cellsOf : Terminals → List ℕ
 cellsOf t = insertAllOf (cellNumbers (positionsOf t)) []
 
--- For the laws: whether a number stands in a list, and whether one of the positions is that of a row and a column
+-- whether a number stands in a list
 unfoldable pub holds : ℕ → List ℕ → Bool
 holds x [] = false
 holds x (y ∷ ys) = eqb x y || holds x ys
 
+-- whether one of the positions is that of a row and a column
 unfoldable pub namesCell : ℕ → ℕ → NodeId → NodeId → Bool
 namesCell r c Ground b = false
 namesCell r c (At i) Ground = false
@@ -65,3 +69,12 @@ namesCell r c (At i) (At j) = eqb r i && eqb c j
 unfoldable pub named : ℕ → ℕ → List Position → Bool
 named r c [] = false
 named r c (p ∷ ps) = namesCell r c (p .row) (p .col) || named r c ps
+
+-- What the list is. It rises, so it is sorted and has no cell twice; the order of its numbers is by row, then column; a cell is in it if and only
+-- if 02 names it; and it has at most 22 cells, 16 where no series resistance makes an inner node
+pub record ListsTheCells (t : Terminals) : Type 0 where
+  pub rises : rising (cellsOf t) ≡ true
+  pub order : (r c s e : ℕ) → c < rowWidth → e < rowWidth → ltb (cellNumber r c) (cellNumber s e) ≡ (ltb r s || (eqb r s && ltb c e))
+  pub exact : (r c : ℕ) → c < rowWidth → holds (cellNumber r c) (cellsOf t) ≡ named r c (positionsOf t)
+  pub most : length (cellsOf t) ≤ 22
+  pub fewer : t .«drain_ext» ≡ t .drain → t .«source_ext» ≡ t .source → length (cellsOf t) ≤ 16

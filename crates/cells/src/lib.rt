@@ -3,7 +3,7 @@ use device::Terminals;
 ghost use mathlib.Core.Path.{_≡_};
 ghost use mathlib.Core.Bool.{false};
 ghost use mathlib.Core.List.{[]};
-ghost use Prim.Native.Nat.{_<_, _≤_};
+ghost use Prim.Native.Nat.{_<_};
 ghost use lib.ListN.{take};
 ghost use Rattle.device.specs.Nodes.{anyNodeBeyond};
 ghost use Rattle.cells.specs.Cells.{rowWidth, positionsOf, cellsOf};

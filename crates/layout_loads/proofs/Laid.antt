@@ -20,7 +20,6 @@ use Rattle.cells.specs.Cells.{rowWidth, cellNumber, cellBefore, cellNumbers, po
 use Rattle.cells.proofs.Members.{cells-rise, cells-hold, stands}
 use Rattle.cells.proofs.Indices.{or-left, or-right, anyEndBeyond, below, positions-below}
 use Rattle.cell_pattern.specs.CellPattern.{rowsTo, largerOf, rowCount, patternIn, patternOf}
-use Rattle.cell_pattern.proofs.Counts.{length-columns}
 use Rattle.cell_pattern.proofs.Fits.{well-formed, found}
 
 -- a row for each node

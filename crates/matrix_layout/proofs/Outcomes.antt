@@ -1,7 +1,7 @@
 -- What the call answers and leaves, by its tests.
 use Prim.Native.Nat.{ℕ}
-use mathlib.Core.Path.{_≡_, refl, sym, ap, _∙_}
-use mathlib.Core.Bool.{Bool, true, false, not, cond, _&&_, _||_}
+use mathlib.Core.Path.{_≡_, refl, sym, _∙_}
+use mathlib.Core.Bool.{Bool, true, false, not, _&&_, _||_}
 use mathlib.Core.List.{List}
 use lib.ListN.{length}
 use Rattle.device.specs.Nodes.{anyNodeBeyond}
@@ -12,7 +12,7 @@ use Rattle.device.specs.declared.Mosfet1.{Mosfet1}
 use Rattle.setup.specs.Binding.{nodeLimit}
 use Rattle.loading.specs.Loading.{nodesOutside}
 use Rattle.cells.specs.Cells.{cellsOf}
-use Rattle.cell_pattern.specs.CellPattern.{rowCount, patternOf, haveRoom, over, LaidOut}
+use Rattle.cell_pattern.specs.CellPattern.{rowCount, patternOf, LaidOut}
 use Rattle.cell_pattern.specs.declared.Needed.{Needed}
 use Rattle.cell_pattern.proofs.Outcomes.{pattern-columns, pattern-rows}
 use Rattle.matrix_layout.specs.MatrixLayout.{layoutOf, isWritten, slice, Layout}

@@ -1,10 +1,8 @@
-use mathlib.Core.Path.{_≡_, ap, _∙_, subst}
-use native.Mathlib.Omega.{arith}
+use mathlib.Core.Path.{ap, _∙_, subst}
 use denote.Ref.{now}
-use lib.ListN.{length, take}
+use lib.ListN.{take}
 use Rattle.pattern.specs.Pattern.{rising}
 use Rattle.places.specs.Places.{Pattern}
-use Rattle.cells.specs.Cells.{cellsOf}
 use Rattle.cells.proofs.Members.{cells-rise}
 use Rattle.cell_pattern.specs.CellPattern.{LaidOut}
 use Rattle.cell_pattern.proofs.Outcomes.{first-are, count-room, same-pattern}
