@@ -1,6 +1,6 @@
--- Calls that do not bind leave the device's nodes.
-use mathlib.Core.Path.{_≡_, refl, sym, ap, _∙_}
-use mathlib.Core.Bool.{true, false, false≢true}
+-- Calls that do not bind, and bindings that are refused, leave the device's nodes.
+use mathlib.Core.Path.{_≡_, refl, ap, _∙_}
+use mathlib.Core.Bool.{false, _&&_}
 use mathlib.Core.List.{List, [], _∷_}
 use lib.ListN.{length}
 use Rattle.device.specs.declared.Mosfet1.{Mosfet1}
@@ -10,8 +10,8 @@ use Rattle.mosfet1.specs.Steps.{evaluatedOf, evaluatedFromOf, committedOf}
 use Rattle.mosfet1.specs.declared.steps.Evaluated.{Evaluated}
 use Rattle.model.specs.Calls.{evalOf, commitOf}
 use Rattle.cells.proofs.Indices.{or-left, or-right}
-use Rattle.call_lists.specs.Calls.{Call, geometry, scaling, binding, evaluation, loading, commit, noise, reactances, answer, deviceLeft, after, run}
-use Rattle.call_lists.proofs.Outcomes.{geometry-done, scaling-done, evaluation-done, commit-done}
+use Rattle.call_lists.specs.Calls.{Call, geometry, scaling, binding, evaluation, loading, commit, noise, reactances, answer, deviceLeft, accepted, after, run}
+use Rattle.call_lists.proofs.Outcomes.{refused-call-leaves-the-device, geometry-done, scaling-done, evaluation-done, commit-done}
 use Rattle.call_lists.proofs.Induction.{geometry-keeps, setup-keeps, evaluation-keeps, commit-keeps}
 use Rattle.layout_loads.specs.LayoutLoads.{binds, bindsAnew}
 
@@ -19,9 +19,9 @@ module _ (d : Mosfet1) where
   abbrev Same : Mosfet1 → Type 0
   Same e = e .terminals ≡ d .terminals
 
-  call-stays : (c : Call) → binds c ≡ false → Same (after c d)
+  call-stays : (c : Call) → (binds c && accepted c d) ≡ false → Same (after c d)
   unfolding binds after answer deviceLeft evaluatedOf evaluatedFromOf committedOf
-  call-stays (binding drain gate source bulk first) b = absurd (false≢true (sym b))
+  call-stays (binding drain gate source bulk first) b = ap (λ (e : Mosfet1). e .terminals) (refused-call-leaves-the-device (binding drain gate source bulk first) d b)
   call-stays (geometry bytes offsets lengths values list) b =
       geometry-keeps Same d (geometryListOf d bytes offsets lengths values list) (geometryOf d bytes offsets lengths values (length list))
       (λ k h. ap (λ (e : Mosfet1). e .terminals) (geometry-done d bytes offsets lengths values (length list) k h .1)) refl
@@ -33,7 +33,8 @@ module _ (d : Mosfet1) where
   call-stays (noise t freq) b = refl
   call-stays reactances b = refl
 
-pub nodes-stay : (calls : List Call) (d : Mosfet1) → bindsAnew calls ≡ false → run calls d .terminals ≡ d .terminals
+pub nodes-stay : (calls : List Call) (d : Mosfet1) → bindsAnew calls d ≡ false → run calls d .terminals ≡ d .terminals
 unfolding run bindsAnew
 nodes-stay [] d b = refl
-nodes-stay (c ∷ calls) d b = nodes-stay calls (after c d) (or-right (binds c) _ b) ∙ call-stays d c (or-left (binds c) _ b)
+nodes-stay (c ∷ calls) d b =
+    nodes-stay calls (after c d) (or-right (binds c && accepted c d) _ b) ∙ call-stays d c (or-left (binds c && accepted c d) _ b)

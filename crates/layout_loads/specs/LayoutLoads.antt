@@ -3,7 +3,7 @@
 use Prim.Native.Nat.{ℕ, _≤_}
 use mathlib.Core.Path.{_≡_}
 use mathlib.Core.Logic.{_≢_}
-use mathlib.Core.Bool.{Bool, true, false, _||_}
+use mathlib.Core.Bool.{Bool, true, false, _&&_, _||_}
 use mathlib.Core.List.{List, [], _∷_}
 use lib.ListN.{length, take}
 use lib.Ieee.{Float}
@@ -16,13 +16,13 @@ use Rattle.resolve.specs.Resolve.{resolveOf}
 use Rattle.resolved_rows.specs.LoadResolved.{loadResolvedOf}
 use Rattle.cell_pattern.specs.declared.Needed.{Needed}
 use Rattle.matrix_layout.specs.MatrixLayout.{isWritten, Layout}
-use Rattle.call_lists.specs.Calls.{Call, geometry, scaling, binding, evaluation, loading, commit, noise, reactances, run}
+use Rattle.call_lists.specs.Calls.{Call, geometry, scaling, binding, evaluation, loading, commit, noise, reactances, accepted, after, run}
 
 -- the pattern that a call has written, in the first entries of the three slices
 unfoldable pub writtenPattern : Needed → List ℕ → List ℕ → List ℕ → Pattern
 writtenPattern n columns offsets lengths = record { columns = take (n .columns) columns; offsets = take (n .rows) offsets; lengths = take (n .rows) lengths }
 
--- "Under that binding": calls among which no further binding is
+-- "Under that binding": no call of the list is an accepted binding
 unfoldable pub binds : Call → Bool
 binds (binding drain gate source bulk first) = true
 binds (geometry bytes offsets lengths values list) = false
@@ -33,9 +33,9 @@ binds (commit x) = false
 binds (noise t freq) = false
 binds reactances = false
 
-unfoldable pub bindsAnew : List Call → Bool
-bindsAnew [] = false
-bindsAnew (c ∷ calls) = binds c || bindsAnew calls
+unfoldable pub bindsAnew : List Call → Mosfet1 → Bool
+bindsAnew [] d = false
+bindsAnew (c ∷ calls) d = (binds c && accepted c d) || bindsAnew calls (after c d)
 
 -- No load of a device on a pattern, of either kind, whatever the slices hold, is refused by 13; none with as many values as columns by 12; none
 -- with a right-hand side of as many rows by 8. So it is where the cells are looked up first and the load goes by them
@@ -54,5 +54,5 @@ LayoutServes =
     (b : Mosfet1) (columns offsets lengths : List ℕ) (n : Needed) (columns' offsets' lengths' : List ℕ)
     → Layout b columns offsets lengths (done n) columns' offsets' lengths'
     → isWritten b (length columns) (length offsets) (length lengths) ≡ true
-    → (calls : List Call) → bindsAnew calls ≡ false
+    → (calls : List Call) → bindsAnew calls b ≡ false
     → EveryLoadFits (run calls b) (writtenPattern n columns' offsets' lengths')
