@@ -13,20 +13,20 @@ use Rattle.device.specs.declared.Terminals.{Terminals}
 use Rattle.places.specs.Places.{Pattern}
 use Rattle.cells.specs.Cells.{rowWidth, cellsOf}
 
--- the columns of the cells, in their order
+-- the columns of the cells, in their order. Of a cell's number the row is the quotient by the width of a row, the column the remainder
 unfoldable pub columnsIn : List ℕ → List ℕ
 columnsIn [] = []
-columnsIn (k ∷ ks) = k % rowWidth ∷ columnsIn ks
+columnsIn (c ∷ cells) = c % rowWidth ∷ columnsIn cells
 
 -- how many cells a row has
 unfoldable pub countIn : ℕ → List ℕ → ℕ
 countIn row [] = 0
-countIn row (k ∷ ks) = cond (eqb (k / rowWidth) row) (suc (countIn row ks)) (countIn row ks)
+countIn row (c ∷ cells) = cond (eqb (c / rowWidth) row) (suc (countIn row cells)) (countIn row cells)
 
 -- the lengths of n rows from `row` on
 unfoldable pub lengthsIn : List ℕ → ℕ → ℕ → List ℕ
-lengthsIn ks row zero = []
-lengthsIn ks row (suc n) = countIn row ks ∷ lengthsIn ks (suc row) n
+lengthsIn cells row zero = []
+lengthsIn cells row (suc n) = countIn row cells ∷ lengthsIn cells (suc row) n
 
 -- "the running offset": each row begins where the one before it ends
 unfoldable pub runningOffsets : ℕ → List ℕ → List ℕ
@@ -48,7 +48,7 @@ rowCount t =
 
 -- cells as a pattern of n rows
 unfoldable pub patternIn : List ℕ → ℕ → Pattern
-patternIn ks n = record { columns = columnsIn ks; offsets = runningOffsets 0 (lengthsIn ks 0 n); lengths = lengthsIn ks 0 n }
+patternIn cells n = record { columns = columnsIn cells; offsets = runningOffsets 0 (lengthsIn cells 0 n); lengths = lengthsIn cells 0 n }
 
 unfoldable pub patternOf : Terminals → Pattern
 patternOf t = patternIn (cellsOf t) (rowCount t)

@@ -8,4 +8,4 @@ use Rattle.cells.specs.Cells.{rowWidth}
 -- how many cells stand in rows before a row
 unfoldable pub countBefore : ℕ → List ℕ → ℕ
 countBefore row [] = 0
-countBefore row (k ∷ ks) = cond (ltb (k / rowWidth) row) (suc (countBefore row ks)) (countBefore row ks)
+countBefore row (c ∷ cells) = cond (ltb (c / rowWidth) row) (suc (countBefore row cells)) (countBefore row cells)
