@@ -6,6 +6,7 @@
 use record::DeviceOutcome;
 use record::DeviceRecord;
 use record_card::KeysOutcome;
+use record_layout::LayoutOutcome;
 use record_resolved::ResolveOutcome;
 use record_setup::CountOutcome;
 use record_setup::NodesRecord;
@@ -19,6 +20,7 @@ ghost use mathlib.Core.Path.{_≡_};
 ghost use lib.ListN.{length};
 ghost use Rattle.record_card.specs.Keys.{cardCall, cardCallList, geometryCall, geometryCallList};
 ghost use Rattle.record_setup.specs.Setup.{scalingCall, bindingCall, extraNodesCall};
+ghost use Rattle.record_layout.specs.Layout.{extraNodesNeededCall, layoutCall, layoutColumns, layoutOffsets, layoutLengths};
 ghost use Rattle.record_steps.specs.Steps.{evalCall, replyOf, commitCall};
 ghost use Rattle.record_small_signal.specs.SmallSignal.{noiseCall, reactancesCall};
 ghost use Rattle.record_loading.specs.Load.{loadCall, loadedSide, loadedMatrix};
@@ -88,6 +90,14 @@ pub extern "C" fn mivtolgya_num_extra_nodes(device: DeviceRecord) -> CountOutcom
     record_setup::num_extra_nodes(device)
 }
 
+// The same number, refused before the first geometry call: until then a sheet resistance counts for nothing.
+#[no_mangle]
+pub extern "C" fn mivtolgya_extra_nodes(device: DeviceRecord) -> CountOutcome
+    ensures { λ o. ⌜ o ≡ extraNodesNeededCall device ⌝ }
+{
+    record_layout::extra_nodes(device)
+}
+
 #[no_mangle]
 pub extern "C" fn mivtolgya_setup_instance(
     device: DeviceRecord,
@@ -97,6 +107,22 @@ pub extern "C" fn mivtolgya_setup_instance(
     ensures { λ o. ⌜ o ≡ bindingCall device nodes first ⌝ }
 {
     record_setup::setup_instance(device, nodes, first)
+}
+
+// The pattern of every cell that the bound device may ever load, in front of what the three slices hold; nothing where one is short.
+#[no_mangle]
+pub extern "C" fn mivtolgya_matrix_layout(
+    device: DeviceRecord,
+    columns: &mut [u32],
+    offsets: &mut [usize],
+    lengths: &mut [usize],
+) -> LayoutOutcome
+    ensures { λ o. ⌜ (o ≡ layoutCall device)
+        × ((now (columns .exit) ≡ layoutColumns device (now (columns .entry)) (now (offsets .entry)) (now (lengths .entry)))
+        × ((now (offsets .exit) ≡ layoutOffsets device (now (columns .entry)) (now (offsets .entry)) (now (lengths .entry)))
+        × (now (lengths .exit) ≡ layoutLengths device (now (columns .entry)) (now (offsets .entry)) (now (lengths .entry))))) ⌝ }
+{
+    record_layout::matrix_layout(device, columns, offsets, lengths)
 }
 
 #[no_mangle]
