@@ -1,5 +1,5 @@
-/* From a card to a load and a commit: an NMOS with its source and bulk at ground, in a matrix of two rows. C99, and C++17. A loop
- * stands in loop.c. */
+/* From a card to a load and a commit: an NMOS with its source and bulk at ground, in a matrix of two rows that the device lays out.
+ * C99, and C++17. A loop stands in loop.c. */
 #include <mivtolgya.h>
 #include <stdio.h>
 
@@ -30,8 +30,24 @@ static void bind_terminals(mivtolgya_device *device) {
     mivtolgya_nodes nodes = {mivtolgya_row(0), {2, 0}, mivtolgya_ground(), mivtolgya_ground()};
     print_refusal("binding with tag 2", mivtolgya_bind(device, nodes, 2));
     nodes.gate = mivtolgya_row(1);
-    printf("extra nodes: %zu\n", mivtolgya_num_extra_nodes(*device).count);
+    printf("extra nodes: %zu\n", mivtolgya_extra_nodes(*device).count);
     print_refusal("binding", mivtolgya_bind(device, nodes, 2));
+}
+
+/* the matrix, of which the device says what it needs */
+static uint32_t columns[MIVTOLGYA_LAYOUT_COLUMNS];
+static size_t offsets[2], lengths[2], count;
+
+/* first without room for the rows, which writes nothing: so a builder learns how many to reserve */
+static void reserve_matrix(const mivtolgya_device *device) {
+    mivtolgya_layout_outcome needed = mivtolgya_matrix_layout(*device, columns, MIVTOLGYA_LAYOUT_COLUMNS, offsets, 0, lengths, 0);
+    printf("layout needs %zu columns and %zu rows\n", needed.columns, needed.rows);
+    needed = mivtolgya_matrix_layout(*device, columns, MIVTOLGYA_LAYOUT_COLUMNS, offsets, 2, lengths, 2);
+    print_refusal("layout", needed.refusal);
+    count = needed.columns;
+    for (size_t i = 0; i < needed.rows; i++) {
+        printf("row %zu: %zu columns from %zu on\n", i, lengths[i], offsets[i]);
+    }
 }
 
 static void evaluate(mivtolgya_device *device, const double *x) {
@@ -43,29 +59,25 @@ static void evaluate(mivtolgya_device *device, const double *x) {
     printf("by value the same record: %d\n", memcmp(&by_value.device, device, sizeof *device) == 0);
 }
 
-/* the matrix: two full rows */
-static const uint32_t columns[] = {0, 1, 0, 1};
-static const size_t offsets[] = {0, 2}, lengths[] = {2, 2};
-
 static void load(const mivtolgya_device *device) {
-    double rhs[2] = {0, 0}, values[4] = {0, 0, 0, 0};
+    double rhs[2] = {0, 0}, values[MIVTOLGYA_LAYOUT_COLUMNS] = {0};
     const uint32_t holed[] = {0, 0, 1};
     const size_t holed_offsets[] = {0, 1}, holed_lengths[] = {1, 2};
     print_refusal("load without a cell",
                   mivtolgya_load(*device, 1, 0.0, rhs, 2, values, 3, holed, 3, holed_offsets, 2, holed_lengths, 2));
     print_system(rhs, values);
-    print_refusal("load", mivtolgya_load_in_place(device, 1, 0.0, rhs, 2, values, 4, columns, 4, offsets, 2, lengths, 2));
+    print_refusal("load", mivtolgya_load_in_place(device, 1, 0.0, rhs, 2, values, count, columns, count, offsets, 2, lengths, 2));
     print_system(rhs, values);
 }
 
 /* the same load by cells that are looked up once; with another count of values than they were looked up for, and with its own */
 static void load_resolved(const mivtolgya_device *device) {
-    double rhs[2] = {0, 0}, values[4] = {0, 0, 0, 0};
-    const mivtolgya_resolve_outcome found = mivtolgya_resolve(*device, columns, 4, offsets, 2, lengths, 2);
+    double rhs[2] = {0, 0}, values[MIVTOLGYA_LAYOUT_COLUMNS] = {0};
+    const mivtolgya_resolve_outcome found = mivtolgya_resolve(*device, columns, count, offsets, 2, lengths, 2);
     print_refusal("cells", found.refusal);
     printf("drain with gate at %zu, gate with gate at %zu\n", found.cells.places[0], found.cells.gate_places[0]);
-    print_refusal("load of three values", mivtolgya_load_resolved(device, 1, 0.0, &found.cells, rhs, 2, values, 3));
-    print_refusal("load by cells", mivtolgya_load_resolved(device, 1, 0.0, &found.cells, rhs, 2, values, 4));
+    print_refusal("load of three values", mivtolgya_load_resolved(device, 1, 0.0, &found.cells, rhs, 2, values, count - 1));
+    print_refusal("load by cells", mivtolgya_load_resolved(device, 1, 0.0, &found.cells, rhs, 2, values, count));
     print_system(rhs, values);
 }
 
@@ -78,11 +90,14 @@ int main(void) {
     }
     print_refusal("scaling nothing", mivtolgya_scale(&device, 300.15));
     read_card(&device);
+    printf("extra nodes so far: %zu\n", mivtolgya_num_extra_nodes(device).count);
+    print_refusal("extra nodes before the geometry", mivtolgya_extra_nodes(device).refusal);
     const mivtolgya_key sizes[] = {{"w", 1e-4}, {"l", 1e-4}, {"as", 1e-8}};
     print_refusal("geometry", mivtolgya_read_geometry(&device, sizes, 3));
     print_refusal("scaling at 199 K", mivtolgya_scale(&device, 199.0));
     print_refusal("scaling at 300.15 K", mivtolgya_scale(&device, 300.15));
     bind_terminals(&device);
+    reserve_matrix(&device);
 
     const double x[] = {1.0, 3.0};
     evaluate(&device, x);

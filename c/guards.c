@@ -139,6 +139,68 @@ static void try_keys(end at) {
     }
 }
 
+/* ---- the number of extra nodes, and the matrix layout */
+
+static void try_extra_nodes(end at, uint64_t expected, mivtolgya_device d) {
+    if (child("extra nodes", at, expected)) {
+        mivtolgya_count_outcome o = mivtolgya_extra_nodes(d);
+        answered(o.count == (expected == MIVTOLGYA_ACCEPTED ? 2 : 0) ? o.refusal : UINT64_MAX, expected);
+    }
+}
+
+/* what the device of the test needs, whose source and bulk are ground */
+enum { LAYOUT_COLUMNS = 12, LAYOUT_ROWS = 4 };
+static const uint32_t layout_columns[] = {0, 2, 1, 2, 3, 0, 1, 2, 3, 1, 2, 3};
+static const size_t layout_offsets[] = {0, 2, 5, 9}, layout_lengths[] = {2, 3, 4, 3};
+
+/* slices of so many elements are lent; where one is too short, or the call is refused, all are read-only */
+static void try_layout(end at, uint64_t expected, mivtolgya_device d, size_t column_space, size_t offset_space, size_t length_space) {
+    uint32_t columns[16];
+    size_t numbers[8];
+    memset(columns, 7, sizeof columns);
+    memset(numbers, 7, sizeof numbers);
+    const int accepted = expected == MIVTOLGYA_ACCEPTED;
+    const int written = accepted && column_space >= LAYOUT_COLUMNS && offset_space >= LAYOUT_ROWS && length_space >= LAYOUT_ROWS;
+    const use how = written ? WRITE : READ;
+    uint32_t *c = COPY(columns, column_space, how);
+    size_t *o = COPY(numbers, offset_space, how), *l = COPY(numbers, length_space, how);
+    if (child("layout", at, expected)) {
+        const mivtolgya_layout_outcome found = mivtolgya_matrix_layout(d, c, column_space, o, offset_space, l, length_space);
+        int good = found.columns == (accepted ? LAYOUT_COLUMNS : 0) && found.rows == (accepted ? LAYOUT_ROWS : 0);
+        if (written) { /* the pattern, and behind it what was there */
+            good = good && memcmp(c, layout_columns, sizeof layout_columns) == 0 && memcmp(o, layout_offsets, sizeof layout_offsets) == 0
+                && memcmp(l, layout_lengths, sizeof layout_lengths) == 0
+                && memcmp(c + LAYOUT_COLUMNS, columns, (column_space - LAYOUT_COLUMNS) * sizeof *c) == 0
+                && memcmp(o + LAYOUT_ROWS, numbers, (offset_space - LAYOUT_ROWS) * sizeof *o) == 0
+                && memcmp(l + LAYOUT_ROWS, numbers, (length_space - LAYOUT_ROWS) * sizeof *l) == 0;
+        }
+        answered(good ? found.refusal : UINT64_MAX, expected);
+    }
+}
+
+static void try_layouts(end at) {
+    const mivtolgya_device scaled = device_at(MIVTOLGYA_STAGE_SCALED, mivtolgya_no_step());
+    const mivtolgya_device bound = device_at(MIVTOLGYA_STAGE_BOUND, mivtolgya_no_step());
+    mivtolgya_device card_only = scaled, far = bound, wrong = bound;
+    card_only.stage = MIVTOLGYA_STAGE_CARD;
+    far.terminals.gate.index = (size_t)1 << 32;
+    wrong.terminals.bulk.tag = 2;
+    try_extra_nodes(at, MIVTOLGYA_ACCEPTED, scaled);
+    try_extra_nodes(at, MIVTOLGYA_ACCEPTED, bound);
+    try_extra_nodes(at, MIVTOLGYA_REFUSED_STAGE, card_only);
+    try_extra_nodes(at, MIVTOLGYA_REFUSED_TAG, wrong);
+    try_layout(at, MIVTOLGYA_ACCEPTED, bound, 12, 4, 4);
+    try_layout(at, MIVTOLGYA_ACCEPTED, bound, 16, 7, 8);
+    try_layout(at, MIVTOLGYA_ACCEPTED, bound, 11, 4, 4);
+    try_layout(at, MIVTOLGYA_ACCEPTED, bound, 12, 3, 4);
+    try_layout(at, MIVTOLGYA_ACCEPTED, bound, 12, 4, 3);
+    try_layout(at, MIVTOLGYA_ACCEPTED, bound, 0, 0, 0);
+    try_layout(at, MIVTOLGYA_ACCEPTED, device_at(MIVTOLGYA_STAGE_EVALUATED, mivtolgya_euler(1e-9)), 12, 4, 4);
+    try_layout(at, MIVTOLGYA_REFUSED_STAGE, scaled, 12, 4, 4);
+    try_layout(at, MIVTOLGYA_REFUSED_NODE, far, 12, 4, 4);
+    try_layout(at, MIVTOLGYA_REFUSED_TAG, wrong, 12, 4, 4);
+}
+
 /* ---- evaluation and commit in place */
 
 static void try_evaluation(end at, uint64_t expected, mivtolgya_device d, const double *v, size_t count, mivtolgya_conditions c) {
@@ -389,6 +451,7 @@ int main(void) {
     for (int i = 0; i < 2; i++) {
         end at = i == 0 ? FIRST : LAST;
         try_keys(at);
+        try_layouts(at);
         try_evaluations(at);
         try_commits(at);
         try_loads(at);

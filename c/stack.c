@@ -46,6 +46,10 @@ static mivtolgya_device_outcome device_outcome;
 static mivtolgya_evaluation_outcome evaluation_outcome;
 static mivtolgya_evaluation_reply reply;
 static mivtolgya_resolve_outcome resolve_outcome;
+static mivtolgya_count_outcome count_outcome;
+static mivtolgya_layout_outcome layout_outcome;
+static uint32_t laid_columns[MIVTOLGYA_LAYOUT_COLUMNS];
+static size_t laid_offsets[6], laid_lengths[6];
 static mivtolgya_noise_outcome noise_outcome;
 static mivtolgya_reactances_outcome reactances_outcome;
 static uint64_t refusal;
@@ -64,12 +68,18 @@ static void set_geometry(void) {
 
 static void scale(void) { refusal = (device_outcome = mivtolgya_setup_model(copy, conditions.temperature)).refusal; }
 static void bind_nodes(void) { refusal = (device_outcome = mivtolgya_setup_instance(copy, nodes, 4)).refusal; }
+static void extra_nodes(void) { refusal = (count_outcome = mivtolgya_extra_nodes(copy)).refusal; }
 static void eval_in_place(void) { refusal = (reply = mivtolgya_eval_in_place(&copy, x, 6, conditions)).refusal; }
 static void eval_by_value(void) { refusal = (evaluation_outcome = mivtolgya_eval(copy, x, 6, conditions)).refusal; }
 static void commit_in_place(void) { refusal = mivtolgya_commit_in_place(&copy, x, 6); }
 static void commit_by_value(void) { refusal = (device_outcome = mivtolgya_commit_timestep(copy, x, 6)).refusal; }
 static void noise(void) { refusal = (noise_outcome = mivtolgya_noise_sources(copy, 300.0, 1e3)).refusal; }
 static void reactances(void) { refusal = (reactances_outcome = mivtolgya_small_signal_reactances(copy)).refusal; }
+
+static void matrix_layout(void) {
+    layout_outcome = mivtolgya_matrix_layout(copy, laid_columns, MIVTOLGYA_LAYOUT_COLUMNS, laid_offsets, 6, laid_lengths, 6);
+    refusal = layout_outcome.refusal;
+}
 
 static void load_in_place(void) {
     refusal = mivtolgya_load_in_place(&copy, conditions.transient, 1e9, rhs, 6, values, 36, columns, 36, offsets, 6, lengths, 6);
@@ -97,7 +107,9 @@ static measured all[] = {
     {"card", read_card, MIVTOLGYA_STAGE_CARD, MIVTOLGYA_STAGE_CARD, 0},
     {"geometry", set_geometry, MIVTOLGYA_STAGE_CARD, MIVTOLGYA_STAGE_SCALED, 0},
     {"scaling", scale, MIVTOLGYA_STAGE_GEOMETRY, MIVTOLGYA_STAGE_EVALUATED, 0},
+    {"extra nodes", extra_nodes, MIVTOLGYA_STAGE_GEOMETRY, MIVTOLGYA_STAGE_EVALUATED, 0},
     {"binding", bind_nodes, MIVTOLGYA_STAGE_SCALED, MIVTOLGYA_STAGE_BOUND, 0},
+    {"layout", matrix_layout, MIVTOLGYA_STAGE_BOUND, MIVTOLGYA_STAGE_EVALUATED, 0},
     {"evaluation in place", eval_in_place, MIVTOLGYA_STAGE_BOUND, MIVTOLGYA_STAGE_EVALUATED, 0},
     {"evaluation by value", eval_by_value, MIVTOLGYA_STAGE_BOUND, MIVTOLGYA_STAGE_EVALUATED, 0},
     {"load in place", load_in_place, MIVTOLGYA_STAGE_EVALUATED, MIVTOLGYA_STAGE_EVALUATED, 0},

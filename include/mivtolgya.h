@@ -81,6 +81,10 @@ extern "C" {
 #define MIVTOLGYA_CELL_GROUND SIZE_MAX
 #define MIVTOLGYA_CELL_ABSENT (SIZE_MAX - 1)
 
+/* How many columns mivtolgya_matrix_layout needs at most; without series resistances it needs at most 16. Lend it so many, and only the
+ * room for the rows depends on the nodes. */
+#define MIVTOLGYA_LAYOUT_COLUMNS 22
+
 #define MIVTOLGYA_STAGE_CARD UINT64_C(1)
 #define MIVTOLGYA_STAGE_GEOMETRY UINT64_C(2)
 #define MIVTOLGYA_STAGE_SCALED UINT64_C(3)
@@ -355,6 +359,14 @@ typedef struct {
     mivtolgya_cells cells;
 } mivtolgya_resolve_outcome;
 
+/* The lengths that a device's matrix pattern needs, of `columns`, and of `offsets` and `lengths` each; and the number of the refusal. A
+ * refused call's lengths are 0. */
+typedef struct {
+    uint64_t refusal;
+    size_t columns;
+    size_t rows;
+} mivtolgya_layout_outcome;
+
 /* ---- sizes: eight bytes for each number */
 MIVTOLGYA_ASSERT(double_size, sizeof(double) == 8);
 MIVTOLGYA_ASSERT(count_size, sizeof(size_t) == 8);
@@ -383,6 +395,7 @@ MIVTOLGYA_ASSERT(reactance_size, sizeof(mivtolgya_reactance) == 48);
 MIVTOLGYA_ASSERT(reactances_outcome_size, sizeof(mivtolgya_reactances_outcome) == 248);
 MIVTOLGYA_ASSERT(cells_size, sizeof(mivtolgya_cells) == 296);
 MIVTOLGYA_ASSERT(resolve_outcome_size, sizeof(mivtolgya_resolve_outcome) == 304);
+MIVTOLGYA_ASSERT(layout_outcome_size, sizeof(mivtolgya_layout_outcome) == 24);
 
 /* ---- calls */
 
@@ -432,8 +445,14 @@ mivtolgya_device_outcome mivtolgya_setup_model(
     mivtolgya_device device,
     double temperature);
 
-/* How many nodes beyond the four terminals a binding takes: one for each series resistance above 0. */
+/* How many nodes beyond the four terminals a binding takes: one for each series resistance above 0. The stage does not matter: before
+ * the first geometry call a sheet resistance counts for nothing yet. mivtolgya_extra_nodes refuses then. */
 mivtolgya_count_outcome mivtolgya_num_extra_nodes(
+    mivtolgya_device device);
+
+/* The same count, refused (MIVTOLGYA_REFUSED_STAGE) before the first geometry call: a sheet resistance needs the geometry's squares. A
+ * refused call's count is 0. */
+mivtolgya_count_outcome mivtolgya_extra_nodes(
     mivtolgya_device device);
 
 /* Binds the terminals, and the extra nodes from the row `first` on: the inner drain, then the inner source. */
@@ -441,6 +460,24 @@ mivtolgya_device_outcome mivtolgya_setup_instance(
     mivtolgya_device device,
     mivtolgya_nodes nodes,
     size_t first);
+
+/* The pattern of a matrix for a bound device, to reserve it before any evaluation: every cell that a load of the device can ever add
+ * to, whatever its capacitances are, ground left out, by rows and rising columns, each once. Rows run from 0 to the largest of the six
+ * nodes; there is none where all are ground. A row without a cell has length 0. On this pattern no load of the device is refused by
+ * MIVTOLGYA_REFUSED_MISSING_CELL until it is bound anew.
+ * Answers the lengths that the pattern needs. Where a slice is shorter nothing is written to any of the three, which is no refusal:
+ * compare the answer with what was lent. Else the pattern stands at the beginning of each slice, and what lies behind it is not touched.
+ * Refused before the binding (_STAGE), and where the record has a node above 2^32 - 1 (_NODE), which no binding accepts.
+ * columns: not null, aligned to 4, room for `column_space` numbers. offsets, lengths: not null, aligned to 8, room for `offset_space`
+ * and `length_space` numbers. All three are written: none overlaps another or anything else that is lent. */
+mivtolgya_layout_outcome mivtolgya_matrix_layout(
+    mivtolgya_device device,
+    uint32_t *columns,
+    size_t column_space,
+    size_t *offsets,
+    size_t offset_space,
+    size_t *lengths,
+    size_t length_space);
 
 /* The noise source at a temperature in kelvin and a frequency in hertz. */
 mivtolgya_noise_outcome mivtolgya_noise_sources(

@@ -1,8 +1,8 @@
 //! The exports of the archive, as include/mivtolgya.h declares them. A slice is handed over as a pointer and a count; a slice's
 //! pointer is never null, also where it is empty.
 use crate::record::{
-    Cells, ConditionsRecord, CountOutcome, DeviceOutcome, DeviceRecord, EvaluationReply, KeysOutcome, NodesRecord, NoiseOutcome,
-    ReactancesOutcome, ResolveOutcome,
+    Cells, ConditionsRecord, CountOutcome, DeviceOutcome, DeviceRecord, EvaluationReply, KeysOutcome, LayoutOutcome, NodesRecord,
+    NoiseOutcome, ReactancesOutcome, ResolveOutcome,
 };
 
 extern "C" {
@@ -37,7 +37,17 @@ extern "C" {
     ) -> KeysOutcome;
     pub fn mivtolgya_setup_model(device: DeviceRecord, temperature: f64) -> DeviceOutcome;
     pub fn mivtolgya_num_extra_nodes(device: DeviceRecord) -> CountOutcome;
+    pub fn mivtolgya_extra_nodes(device: DeviceRecord) -> CountOutcome;
     pub fn mivtolgya_setup_instance(device: DeviceRecord, nodes: NodesRecord, first: usize) -> DeviceOutcome;
+    pub fn mivtolgya_matrix_layout(
+        device: DeviceRecord,
+        columns: *mut u32,
+        column_space: usize,
+        offsets: *mut usize,
+        offset_space: usize,
+        lengths: *mut usize,
+        length_space: usize,
+    ) -> LayoutOutcome;
     pub fn mivtolgya_noise_sources(device: DeviceRecord, temperature: f64, freq: f64) -> NoiseOutcome;
     pub fn mivtolgya_small_signal_reactances(device: DeviceRecord) -> ReactancesOutcome;
     pub fn mivtolgya_eval_in_place(

@@ -1,10 +1,11 @@
 //! The SPICE Level-1 MOSFET model, proved: a safe face of `libmivtolgya.a`. It needs no standard library and no heap.
 //!
 //! A [`Device`] owns its record. The calls come in the order card, geometry, scaling, binding, evaluation; load, commit, noise and
-//! reactances follow an evaluation. A loop over a large matrix looks the device's [`Cells`] up once, by [`Device::resolve`] after the
-//! binding, and loads by [`Device::load_resolved`]; one over many devices lays the conditions out once, for [`Device::eval_at`].
-//! Every call answers or is refused by a [`Refusal`]; after a refusal the device and every lent slice hold what they held. The
-//! repository's docs/USING.md has the keys with their ranges, the causes of refusals, and what threads may share.
+//! reactances follow an evaluation. [`Device::matrix_layout`] answers, after the binding, the matrix that every load of the device fits
+//! into. A loop over a large matrix looks the device's [`Cells`] up once, by [`Device::resolve`] after the binding, and loads by
+//! [`Device::load_resolved`]; one over many devices lays the conditions out once, for [`Device::eval_at`]. Every call answers or is
+//! refused by a [`Refusal`]; after a refusal the device and every lent slice hold what they held. The repository's docs/USING.md has
+//! the keys with their ranges, the causes of refusals, and what threads may share.
 //!
 //! ```
 //! use mivtolgya::{Conditions, Device, Method, Node, Polarity};
@@ -156,6 +157,15 @@ pub struct Matrix<'a> {
     pub lengths: &'a [usize],
 }
 
+/// The lengths that a device's matrix pattern needs, as [`Device::matrix_layout`] answers them.
+#[derive(Clone, Copy, Debug, PartialEq, Eq)]
+pub struct Needed {
+    /// Of the columns, and so of the matrix's values.
+    pub columns: usize,
+    /// Of the offsets and of the lengths: one more than the largest node, 0 where all are ground.
+    pub rows: usize,
+}
+
 /// What a load adds.
 #[derive(Clone, Copy, Debug)]
 pub enum Load {
@@ -283,10 +293,19 @@ impl Device {
         Ok(())
     }
 
-    /// How many nodes beyond the four terminals a binding takes: one for each series resistance above 0.
+    /// How many nodes beyond the four terminals a binding takes: one for each series resistance above 0. The stage does not matter:
+    /// before the first geometry call a sheet resistance counts for nothing yet. [`extra_nodes`](Device::extra_nodes) refuses then.
     pub fn num_extra_nodes(&self) -> usize {
         // SAFETY: records by value.
         unsafe { mivtolgya_num_extra_nodes(self.record.clone()).count }
+    }
+
+    /// The same count, refused ([`Refusal::Stage`]) before the first geometry call: a sheet resistance needs the geometry's squares.
+    pub fn extra_nodes(&self) -> Result<usize, Refusal> {
+        // SAFETY: records by value.
+        let o = unsafe { mivtolgya_extra_nodes(self.record.clone()) };
+        accepted(o.refusal)?;
+        Ok(o.count)
     }
 
     /// Binds drain, gate, source and bulk, and the extra nodes from the row `first` on: the inner drain, then the inner source.
@@ -297,6 +316,45 @@ impl Device {
         accepted(o.refusal)?;
         self.record = o.device;
         Ok(())
+    }
+
+    /// The pattern of a matrix for a bound device, to reserve it before any evaluation: every cell that a load of the device can ever
+    /// add to, whatever its capacitances are, ground left out, by rows and rising columns, each once. A row without a cell has length
+    /// 0. On this pattern no load of the device is refused by [`Refusal::MissingCell`] until it is bound anew.
+    ///
+    /// Where a slice is shorter than the answer says, nothing is written to any of the three, and the call is not refused. Else the
+    /// pattern stands at the beginning of each slice, and what lies behind it stays. With [`LAYOUT_COLUMNS`] columns only the room for
+    /// the rows depends on the nodes. Refused before the binding ([`Refusal::Stage`]).
+    ///
+    /// ```
+    /// # use mivtolgya::*;
+    /// # fn main() -> Result<(), Refusal> {
+    /// # let (mut device, _) = Device::from_model_params(Polarity::Nmos, &[("vto", 1.0), ("kp", 2.0)], &mut [])?;
+    /// # device.set_instance_params(&[], &mut [])?;
+    /// # device.setup_model(300.15)?;
+    /// device.setup_instance(Node::Row(0), Node::Row(1), Node::Ground, Node::Ground, 2)?;
+    /// let needed = device.matrix_layout(&mut [], &mut [], &mut [])?;
+    /// let (mut columns, mut offsets, mut lengths) = (vec![0; needed.columns], vec![0; needed.rows], vec![0; needed.rows]);
+    /// device.matrix_layout(&mut columns, &mut offsets, &mut lengths)?;
+    /// assert_eq!((columns, offsets, lengths), (vec![0, 1, 0, 1], vec![0, 2], vec![2, 2]));
+    /// # Ok(())
+    /// # }
+    /// ```
+    pub fn matrix_layout(&self, columns: &mut [u32], offsets: &mut [usize], lengths: &mut [usize]) -> Result<Needed, Refusal> {
+        // SAFETY: the record by value; each pointer and count is a live slice's, borrowed mutably, so none overlaps another.
+        let o = unsafe {
+            mivtolgya_matrix_layout(
+                self.record.clone(),
+                columns.as_mut_ptr(),
+                columns.len(),
+                offsets.as_mut_ptr(),
+                offsets.len(),
+                lengths.as_mut_ptr(),
+                lengths.len(),
+            )
+        };
+        accepted(o.refusal)?;
+        Ok(Needed { columns: o.columns, rows: o.rows })
     }
 
     /// Evaluates at the node voltages `x`, in volts, one for each row.

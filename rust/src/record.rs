@@ -33,6 +33,9 @@ pub const CELL_GROUND: usize = usize::MAX;
 /// In place of a number of [`Cells`]: the pattern has no such cell.
 pub const CELL_ABSENT: usize = usize::MAX - 1;
 
+/// How many columns [`Device::matrix_layout`](crate::Device::matrix_layout) needs at most; without series resistances at most 16.
+pub const LAYOUT_COLUMNS: usize = 22;
+
 /// Stage of a device: its card was read.
 pub const STAGE_CARD: u64 = 1;
 /// Stage of a device: its geometry was set.
@@ -355,4 +358,13 @@ pub struct Cells {
 pub struct ResolveOutcome {
     pub refusal: u64,
     pub cells: Cells,
+}
+
+/// The lengths that a device's matrix pattern needs, and the number of the refusal. A refused call's lengths are 0.
+#[repr(C)]
+#[derive(Clone, Copy, Debug)]
+pub struct LayoutOutcome {
+    pub refusal: u64,
+    pub columns: usize,
+    pub rows: usize,
 }
