@@ -91,12 +91,20 @@ def marks():
     return {n: int(k) for n, k in re.findall(r"^(skipped|missing)Number = (\d+)", code("crates/places/specs/Places.antt"), re.M)}
 
 
+def layout_columns():
+    """How many cells a device has at most, and how many without series resistances, by the laws that say so."""
+    laws = re.findall(r"^pub at-most-\d+ : .*length \(cellsOf t\) ≤ (\d+)$", code("crates/cells/proofs/Bounds.antt"), re.M)
+    return [int(n) for n in laws]
+
+
 # the definitions that list a call's rows
 ROWS = {
     "card": ["entries/specs/Entries keyRows", "card/specs/Card cardRows"],
     "geometry": ["entries/specs/Entries keyRows", "geometry/specs/Geometry geometryRows"],
     "scaling": ["setup/specs/Scaling scalingRows"],
+    "extra nodes": ["matrix_layout/specs/MatrixLayout extraNodesRows"],
     "binding": ["setup/specs/Binding bindingRows"],
+    "layout": ["matrix_layout/specs/MatrixLayout layoutRows"],
     "evaluation": ["rows/specs/Rows evalRows"],
     "load": ["loading/specs/Loading loadRows"],
     "resolving": ["resolve/specs/Resolve resolveRows"],

@@ -67,6 +67,15 @@ def check_marks():
     same("marks of the wrapper", wrapper, {"CELL_GROUND": "usize::MAX", "CELL_ABSENT": "usize::MAX - 1"})
 
 
+def check_layout_columns():
+    """The room for columns that header, wrapper and USING name is that of the sources' laws."""
+    laws = sources.layout_columns()
+    for path, pattern in ((HEADER, r"#define MIVTOLGYA_LAYOUT_COLUMNS (\d+)"), (RECORDS, r"pub const LAYOUT_COLUMNS: usize = (\d+);")):
+        same(f"room for columns in {path} and sources", [int(n) for n in re.findall(pattern, read(path))], laws[:1])
+    if "at most {} columns, and {} without series resistances".format(*laws) not in read(USING):
+        raise AssertionError("USING says otherwise how many columns a layout needs")
+
+
 def rust_parameters(parameters):
     for _, kind in parameters:
         lent = re.match(r"&(mut )?(\[?)(\w+)", kind)
@@ -143,6 +152,7 @@ def check(all_records, all_exports):
     names, refused = check_numbers()
     check_records(all_records)
     check_marks()
+    check_layout_columns()
     check_exports(all_exports)
     check_refusals(read(USING))
     listed = check_keys(read(USING))
