@@ -77,13 +77,13 @@ module _ (ks : List ℕ) (rows : ℕ) (cs os ls : List ℕ) (b : Bool) (e : b �
 pub below-width : (n : NodeId) (i : ℕ) → n ≡ At i → nodeBeyond rowWidth n ≡ false → i < rowWidth
 below-width n i e h = below rowWidth i (subst (λ (m : NodeId). nodeBeyond rowWidth m ≡ false) e h)
 
--- the list that an array holds in front of zeros
+-- the list that an array holds in front of ones
 module _ {xs numbers : List ℕ} {count : ℕ} (l : Listed xs numbers count) where
   pub first-are : take count numbers ≡ xs
-  first-are = ap (take count) (l .whole) ∙ take-at xs (drop (length xs) (replicate 44 0)) count (sym (l .counted))
+  first-are = ap (take count) (l .whole) ∙ take-at xs (drop (length xs) (replicate 44 1)) count (sym (l .counted))
 
   pub count-room : length numbers ≡ 44 → count ≤ 44
-  count-room h = omega (arith, l .counted, sym h ∙ ap length (l .whole) ∙ length-append xs (drop (length xs) (replicate 44 0)))
+  count-room h = omega (arith, l .counted, sym h ∙ ap length (l .whole) ∙ length-append xs (drop (length xs) (replicate 44 1)))
 
 pub same-pattern : (t : Terminals) (ks : List ℕ) (rows : ℕ) → ks ≡ cellsOf t → rows ≡ rowCount t → patternIn ks rows ≡ patternOf t
 unfolding patternOf

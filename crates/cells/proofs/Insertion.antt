@@ -77,11 +77,11 @@ further n m xs ys h e =
     let at : n + (m - n) ≡ m = omega arith in
     subst (λ (k : ℕ). drop k xs ≡ drop k ys) at (sym (drop-drop (m - n) n xs) ∙ ap (drop (m - n)) e ∙ drop-drop (m - n) n ys)
 
--- the first count numbers are the list, and behind them are zeros
-pub listed : (xs numbers : List ℕ) (count : ℕ) → take count numbers ≡ xs → count ≤ length numbers → drop count numbers ≡ drop count (replicate 44 0) → Listed xs numbers count
+-- the first count numbers are the list, and behind them are ones
+pub listed : (xs numbers : List ℕ) (count : ℕ) → take count numbers ≡ xs → count ≤ length numbers → drop count numbers ≡ drop count (replicate 44 1) → Listed xs numbers count
 listed xs numbers count e h k =
     let n : count ≡ length xs = sym (length-take-le count numbers h) ∙ ap length e in
     record {
       counted = n;
-      whole = sym (take-append-drop count numbers) ∙ ap (λ (ys : List ℕ). ys ++ drop count numbers) e ∙ ap (λ (ys : List ℕ). xs ++ ys) (k ∙ ap (λ (m : ℕ). drop m (replicate 44 0)) n);
+      whole = sym (take-append-drop count numbers) ∙ ap (λ (ys : List ℕ). ys ++ drop count numbers) e ∙ ap (λ (ys : List ℕ). xs ++ ys) (k ∙ ap (λ (m : ℕ). drop m (replicate 44 1)) n);
     }

@@ -37,10 +37,10 @@ carryCellsOf [] cs xs = xs
 carryCellsOf (r ∷ rs) [] xs = xs
 carryCellsOf (r ∷ rs) (c ∷ cs) xs = carryCellsOf rs cs (carryCellOf r c xs)
 
--- the list in front of zeros: an array and how many of its numbers are the list
+-- the list in front of ones: an array and how many of its numbers are the list
 pub record Listed (xs numbers : List ℕ) (count : ℕ) : Type 0 where
   pub counted : count ≡ length xs
-  pub whole : numbers ≡ xs ++ drop (length xs) (replicate 44 0)
+  pub whole : numbers ≡ xs ++ drop (length xs) (replicate 44 1)
 
 -- an array whose first numbers are the list: one more of them than before, or as many, and those behind them as they were
 pub record Grown (xs before : List ℕ) (old : ℕ) (numbers : List ℕ) (count : ℕ) : Type 0 where

@@ -9,7 +9,7 @@ ghost use Rattle.device.specs.Nodes.{anyNodeBeyond};
 ghost use Rattle.cells.specs.Cells.{rowWidth, positionsOf, cellsOf};
 ghost use Rattle.cells.specs.Steps.{lowerOf, higherOf, carryOf, carryCellOf, carryCellsOf, rowIndices, columnIndices, Listed, Grown};
 
-// Cells, each as row · 2^32 + column, in rising order: the first `count` numbers, and zeros behind them.
+// Cells, each as row · 2^32 + column, in rising order: the first `count` numbers, and ones behind them.
 pub struct CellList {
     pub numbers: [u64; 44],
     pub count: usize,
@@ -72,11 +72,12 @@ fn insert_cell(list: CellList, row: usize, column: usize) -> CellList
     insert(list, row as u64 * 4294967296 + column as u64)
 }
 
+// The array starts with ones: zeros would be filled in by a call of memset, and the library is to need no symbol but memcpy.
 fn insert_cells(rows: [usize; 44], columns: [usize; 44]) -> CellList
     ensures { λ r. ⌜ Listed (carryCellsOf rows columns []) (r .numbers) (r .count) ⌝ }
 {
     let mut list = CellList {
-        numbers: [0; 44],
+        numbers: [1; 44],
         count: 0,
     };
     let mut i: usize = 0;

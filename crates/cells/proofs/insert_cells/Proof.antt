@@ -11,7 +11,7 @@ use Rattle.cells.proofs.insert_cells.Tie as tie
 
 abbrev Inv-loop : tie.InvT-loop
 Inv-loop rows columns list₀ i₀ list i =
-    (i ≤ 44) × ((length (list .numbers) ≡ 44) × ((list .count ≤ i) × ((drop (list .count) (list .numbers) ≡ drop (list .count) (replicate 44 0)) × (carryCellsOf (drop i rows) (drop i columns) (take (list .count) (list .numbers)) ≡ carryCellsOf rows columns []))))
+    (i ≤ 44) × ((length (list .numbers) ≡ 44) × ((list .count ≤ i) × ((drop (list .count) (list .numbers) ≡ drop (list .count) (replicate 44 1)) × (carryCellsOf (drop i rows) (drop i columns) (take (list .count) (list .numbers)) ≡ carryCellsOf rows columns []))))
 
 abbrev μ-loop : tie.MeasureT-loop
 μ-loop rows columns list₀ i₀ list i = 44 - i
@@ -53,7 +53,7 @@ loop-again c =
           omega (arith, c .insert-cell .ensures .more),
           (
             c .insert-cell .ensures .kept
-                ∙ further (l .loop .list .count) (c .insert-cell .result .count) (l .loop .list .numbers) (replicate 44 0) (c .insert-cell .ensures .less) (l .loop .inv .1 .1 .1 .0),
+                ∙ further (l .loop .list .count) (c .insert-cell .result .count) (l .loop .list .numbers) (replicate 44 1) (c .insert-cell .ensures .less) (l .loop .inv .1 .1 .1 .0),
             ap (carryCellsOf _ _) (c .insert-cell .ensures .first)
                 ∙ sym (cells-more (s .args .t1) (s .args .t2) _ (l .loop .i) (omega arith) (omega arith))
                 ∙ l .loop .inv .1 .1 .1 .1,
