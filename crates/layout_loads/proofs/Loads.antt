@@ -27,7 +27,7 @@ use Rattle.cells.proofs.Bounds.{at-most-22}
 use Rattle.cell_pattern.specs.CellPattern.{rowCount, patternOf}
 use Rattle.cell_pattern.specs.declared.Needed.{Needed}
 use Rattle.cell_pattern.proofs.Outcomes.{pattern-columns, pattern-rows, pattern-row-lengths, front}
-use Rattle.matrix_layout.specs.MatrixLayout.{layoutRows, layoutOf, isWritten, slice, Layout}
+use Rattle.matrix_layout.specs.MatrixLayout.{layoutRows, layoutOf, isWritten, atExit, Layout}
 use Rattle.call_lists.specs.Calls.{run}
 use Rattle.layout_loads.specs.LayoutLoads.{writtenPattern, EveryLoadFits, LayoutServes}
 use Rattle.layout_loads.proofs.Contributions.{append-left, contributions-there}
@@ -123,7 +123,7 @@ module _ (b : Mosfet1) (columns offsets lengths : List ℕ) (n : Needed) (column
       inside false a e f = f
 
   is-pattern : writtenPattern n columns' offsets' lengths' ≡ patternOf (b .terminals)
-  unfolding writtenPattern slice
+  unfolding writtenPattern atExit
   is-pattern =
       let counts = accepted .1 in
       let t = b .terminals in

@@ -15,7 +15,7 @@ use Rattle.cells.specs.Cells.{cellsOf}
 use Rattle.cell_pattern.specs.CellPattern.{rowCount, patternOf, LaidOut}
 use Rattle.cell_pattern.specs.declared.Needed.{Needed}
 use Rattle.cell_pattern.proofs.Outcomes.{pattern-columns, pattern-rows}
-use Rattle.matrix_layout.specs.MatrixLayout.{layoutOf, isWritten, slice, Layout}
+use Rattle.matrix_layout.specs.MatrixLayout.{layoutOf, isWritten, atExit, Layout}
 
 twice : (a b : Bool) → (a && (b || b)) ≡ (a && b)
 twice true true = refl
@@ -50,12 +50,12 @@ module _ (d : Mosfet1) where
 
   module _ (columns offsets lengths : List ℕ) where
     pub kept : (n : ℕ) → refused n ≡ layoutOf d → Layout d columns offsets lengths (refused n) columns offsets lengths
-    unfolding isWritten slice
+    unfolding isWritten atExit
     kept n e = record { answer = e; columns-are = rw (← e); offsets-are = rw (← e); lengths-are = rw (← e) }
 
     pub written : (n : Needed) (columns' offsets' lengths' : List ℕ) → done n ≡ layoutOf d
         → LaidOut (patternOf (d .terminals)) columns offsets lengths columns' offsets' lengths' → Layout d columns offsets lengths (done n) columns' offsets' lengths'
-    unfolding isWritten slice
+    unfolding isWritten atExit
     written n columns' offsets' lengths' e l = record {
       answer = e;
       columns-are = rw (← e, ← pattern-columns (d .terminals), ← pattern-rows (d .terminals)) (l .columns-are);

@@ -51,12 +51,12 @@ isWritten d columns offsets lengths =
     isAccepted (layoutOf d) && haveRoom (length (cellsOf (d .terminals))) (rowCount (d .terminals)) columns offsets lengths
 
 -- a slice at exit: what is written in front of what it held, or as it was
-unfoldable pub slice : Bool → List ℕ → List ℕ → List ℕ
-slice written front held = cond written (over front held) held
+unfoldable pub atExit : Bool → List ℕ → List ℕ → List ℕ
+atExit written front held = cond written (over front held) held
 
 -- the outcome and the three slices, whole
 pub record Layout (d : Mosfet1) (columns offsets lengths : List ℕ) (r : Outcome Needed) (columns' offsets' lengths' : List ℕ) : Type 0 where
   pub answer : r ≡ layoutOf d
-  pub columns-are : columns' ≡ slice (isWritten d (length columns) (length offsets) (length lengths)) (patternOf (d .terminals) .columns) columns
-  pub offsets-are : offsets' ≡ slice (isWritten d (length columns) (length offsets) (length lengths)) (patternOf (d .terminals) .offsets) offsets
-  pub lengths-are : lengths' ≡ slice (isWritten d (length columns) (length offsets) (length lengths)) (patternOf (d .terminals) .lengths) lengths
+  pub columns-are : columns' ≡ atExit (isWritten d (length columns) (length offsets) (length lengths)) (patternOf (d .terminals) .columns) columns
+  pub offsets-are : offsets' ≡ atExit (isWritten d (length columns) (length offsets) (length lengths)) (patternOf (d .terminals) .offsets) offsets
+  pub lengths-are : lengths' ≡ atExit (isWritten d (length columns) (length offsets) (length lengths)) (patternOf (d .terminals) .lengths) lengths

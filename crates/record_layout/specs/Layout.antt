@@ -7,7 +7,7 @@ use lib.ListN.{length}
 use Rattle.device.specs.Refusals.{Outcome, done, refused}
 use Rattle.cell_pattern.specs.CellPattern.{patternOf}
 use Rattle.cell_pattern.specs.declared.Needed.{Needed}
-use Rattle.matrix_layout.specs.MatrixLayout.{extraNodesOf, layoutOf, isWritten, slice}
+use Rattle.matrix_layout.specs.MatrixLayout.{extraNodesOf, layoutOf, isWritten, atExit}
 use Rattle.record.specs.declared.DeviceRecord.{DeviceRecord}
 use Rattle.from_record.specs.Devices.{deviceFrom}
 use Rattle.from_record.specs.Tags.{goodTags}
@@ -39,14 +39,14 @@ layoutWritten r columns offsets lengths = goodTags r && isWritten (deviceFrom r)
 -- the columns afterwards
 unfoldable pub layoutColumns : DeviceRecord → List ℕ → List ℕ → List ℕ → List ℕ
 layoutColumns r columns offsets lengths =
-    slice (layoutWritten r (length columns) (length offsets) (length lengths)) (patternOf (deviceFrom r .terminals) .columns) columns
+    atExit (layoutWritten r (length columns) (length offsets) (length lengths)) (patternOf (deviceFrom r .terminals) .columns) columns
 
 -- the offsets afterwards
 unfoldable pub layoutOffsets : DeviceRecord → List ℕ → List ℕ → List ℕ → List ℕ
 layoutOffsets r columns offsets lengths =
-    slice (layoutWritten r (length columns) (length offsets) (length lengths)) (patternOf (deviceFrom r .terminals) .offsets) offsets
+    atExit (layoutWritten r (length columns) (length offsets) (length lengths)) (patternOf (deviceFrom r .terminals) .offsets) offsets
 
 -- the lengths afterwards
 unfoldable pub layoutLengths : DeviceRecord → List ℕ → List ℕ → List ℕ → List ℕ
 layoutLengths r columns offsets lengths =
-    slice (layoutWritten r (length columns) (length offsets) (length lengths)) (patternOf (deviceFrom r .terminals) .lengths) lengths
+    atExit (layoutWritten r (length columns) (length offsets) (length lengths)) (patternOf (deviceFrom r .terminals) .lengths) lengths

@@ -1,7 +1,7 @@
 -- `record_layout::matrix_layout`: the tags, then the device's own answer and slices.
 use borrow.Author.Needs.{needs}
 use borrow.Author.Tests.{not-true, not-false}
-use Rattle.matrix_layout.specs.MatrixLayout.{slice}
+use Rattle.matrix_layout.specs.MatrixLayout.{atExit}
 use Rattle.record_layout.specs.Layout.{layoutCall, layoutWritten, layoutColumns, layoutOffsets, layoutLengths}
 use Rattle.record_layout.proofs.matrix_layout.Statement.{statement}
 use Rattle.record_layout.proofs.matrix_layout.Tie as tie
@@ -10,7 +10,7 @@ good-tags-requires : tie.Need-good-tags-requires
 good-tags-requires c κs = search needs
 
 returns : tie.Need-returns
-unfolding slice layoutCall layoutWritten layoutColumns layoutOffsets layoutLengths
+unfolding atExit layoutCall layoutWritten layoutColumns layoutOffsets layoutLengths
 returns c =
     let g = c .before .good-tags in
     let unknown = not-true (g .result) (c .if1 .taken) in
