@@ -1,4 +1,4 @@
--- What an item writes: a float, a column, or a pair of offset and length.
+-- What an item writes: a float, a whole number, a column, or a pair of offset and length.
 use Prim.Native.Nat.{ℕ}
 use mathlib.Core.Bool.{cond}
 use mathlib.Core.List.{List}
@@ -21,6 +21,13 @@ floatItem Number.Not = none
 
 unfoldable pub numberIn : List ℕ → Item Float
 numberIn item = floatItem (numberOf item)
+
+unfoldable pub wholeItem : Whole → Item ℕ
+wholeItem (Whole.Is x) = is x
+wholeItem Whole.Not = none
+
+unfoldable pub wholeIn : List ℕ → Item ℕ
+wholeIn item = wholeItem (wholeOf item)
 
 -- a column is a whole number of 32 bits
 unfoldable pub ofWhole : Whole → Column

@@ -32,22 +32,30 @@ itemText x = 44 ∷ numberText x
 unfoldable pub nextWholeText : ℕ → List ℕ
 nextWholeText x = 32 ∷ wholeText x
 
-unfoldable pub eachText : List Float → List ℕ
-eachText [] = []
-eachText (x ∷ xs) = nextText x ++ eachText xs
+unfoldable pub itemWholeText : ℕ → List ℕ
+itemWholeText x = 44 ∷ wholeText x
 
-unfoldable pub itemsText : List Float → List ℕ
-itemsText [] = []
-itemsText (x ∷ xs) = itemText x ++ itemsText xs
+-- the elements' texts, one behind the other
+unfoldable pub eachBy : {A : Type 0} → (A → List ℕ) → List A → List ℕ
+eachBy text [] = []
+eachBy text (x ∷ xs) = text x ++ eachBy text xs
 
--- a list after a space; the empty one is `-`
-unfoldable pub listText : List Float → List ℕ
-listText [] = 32 ∷ 45 ∷ []
-listText (x ∷ xs) = nextText x ++ itemsText xs
+-- a list after a space, by the text of its first element and that of a further one; the empty list is `-`
+unfoldable pub listBy : {A : Type 0} → (A → List ℕ) → (A → List ℕ) → List A → List ℕ
+listBy first further [] = 32 ∷ 45 ∷ []
+listBy first further (x ∷ xs) = first x ++ eachBy further xs
 
-unfoldable pub placesText : List ℕ → List ℕ
-placesText [] = []
-placesText (x ∷ xs) = nextWholeText x ++ placesText xs
+abbrev pub eachText : List Float → List ℕ
+eachText xs = eachBy nextText xs
+
+abbrev pub listText : List Float → List ℕ
+listText xs = listBy nextText itemText xs
+
+abbrev pub placesText : List ℕ → List ℕ
+placesText xs = eachBy nextWholeText xs
+
+abbrev pub wholesText : List ℕ → List ℕ
+wholesText xs = listBy nextWholeText itemWholeText xs
 
 -- ground is `-`
 unfoldable pub nodeText : NodeId → List ℕ

@@ -8,7 +8,7 @@ ghost use mathlib.Core.Path.{_≡_};
 ghost use Prim.Native.Nat.{_+_, _<_};
 ghost use lib.ListN.{length, take};
 ghost use Rattle.hex.specs.Text.{endOf, textAt};
-ghost use Rattle.replay.specs.Text.{wholeText, nextWholeText, nextText, itemText, eachText, nodeText, givenText, historyText, methodText, betweenText, listText, placesText};
+ghost use Rattle.replay.specs.Text.{wholeText, nextWholeText, nextText, itemText, eachText, nodeText, givenText, historyText, methodText, betweenText, listText, placesText, itemWholeText, wholesText};
 
 // The byte of a decimal digit.
 fn digit_byte(d: u64) -> u8
@@ -178,6 +178,58 @@ pub fn put_places(out: &mut [u8], at: usize, places: &[usize], count: usize) -> 
             return n;
         }
         n = put_next_whole(out, n, places[i] as u64);
+        i += 1;
+    }
+    n
+}
+
+// A whole number after a comma.
+fn put_item_whole(out: &mut [u8], at: usize, x: u64) -> usize
+    ensures { λ r. ⌜ r ≡ endOf (length (now (out .entry))) at (itemWholeText x) ⌝ }
+    ensures { λ r. ⌜ now (out .exit) ≡ textAt (now (out .entry)) at (itemWholeText x) ⌝ }
+{
+    let n = hex::put_text(out, at, b",");
+    put_whole(out, n, x)
+}
+
+// A list of whole numbers after a space.
+pub fn put_wholes(out: &mut [u8], at: usize, xs: &[usize]) -> usize
+    ensures { λ r. ⌜ r ≡ endOf (length (now (out .entry))) at (wholesText (now (xs .entry))) ⌝ }
+    ensures { λ r. ⌜ now (out .exit) ≡ textAt (now (out .entry)) at (wholesText (now (xs .entry))) ⌝ }
+{
+    if xs.len() == 0 {
+        return hex::put_text(out, at, b" -");
+    }
+    let mut n = put_next_whole(out, at, xs[0] as u64);
+    let mut i = 1;
+    while i < xs.len() {
+        n = put_item_whole(out, n, xs[i] as u64);
+        i += 1;
+    }
+    n
+}
+
+// A column as a number of 64 bits. Of a parameter it is known that it fits, of an element of a lent slice it is not.
+fn wide(column: u32) -> u64
+    ensures { λ r. ⌜ r ≡ column ⌝ }
+{
+    column as u64
+}
+
+// A list of columns after a space.
+pub fn put_columns(out: &mut [u8], at: usize, xs: &[u32]) -> usize
+    ensures { λ r. ⌜ r ≡ endOf (length (now (out .entry))) at (wholesText (now (xs .entry))) ⌝ }
+    ensures { λ r. ⌜ now (out .exit) ≡ textAt (now (out .entry)) at (wholesText (now (xs .entry))) ⌝ }
+{
+    if xs.len() == 0 {
+        return hex::put_text(out, at, b" -");
+    }
+    let first = wide(xs[0]);
+    let mut n = put_next_whole(out, at, first);
+    let mut i = 1;
+    while i < xs.len() {
+        let x = wide(xs[i]);
+        n = put_item_whole(out, n, x);
         i += 1;
     }
     n

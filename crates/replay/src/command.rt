@@ -19,6 +19,8 @@ pub enum Question {
     State,
     Load,
     LoadResolved,
+    Extra,
+    Cells,
 }
 
 // Lines that do not touch the device; an unknown command is among them.
@@ -79,10 +81,10 @@ fn card_of(w: &[u8]) -> Reader {
     }
 }
 
-// The number of a command; 16 is none.
+// The number of a command; 18 is none.
 fn number_of(w: &[u8]) -> usize {
     place_of(
-        b"card cardraw geometry geometryraw call scale bind eval commit load resolve loadresolved reset noise reactances state",
+        b"card cardraw geometry geometryraw call scale bind eval commit load resolve loadresolved reset noise reactances state extra cells",
         w,
     )
 }
@@ -94,8 +96,8 @@ fn words_of(number: usize, words: usize) -> usize {
         6 | 9 => 6,
         7 => 7,
         10 | 13 => 3,
-        11 => 4,
-        12 | 14 | 15 => 1,
+        11 | 17 => 4,
+        12 | 14 | 15 | 16 => 1,
         _ => words,
     }
 }
@@ -118,6 +120,8 @@ fn command_at(number: usize, line: &[u8]) -> Command {
         13 => Command::Asking(Question::Noise),
         14 => Command::Asking(Question::Reactances),
         15 => Command::Asking(Question::State),
+        16 => Command::Asking(Question::Extra),
+        17 => Command::Asking(Question::Cells),
         _ => Command::Aside(Apart::Unknown),
     }
 }

@@ -8,6 +8,7 @@ use crate::device_calls;
 use crate::device_text;
 use crate::function_calls;
 use crate::key_calls;
+use crate::layout_calls;
 use crate::load_calls;
 use crate::replies::Reply;
 use crate::replies::Session;
@@ -37,6 +38,10 @@ fn asked(session: Session, question: Question, line: &[u8], out: &mut [u8]) -> u
         Question::State => device_text::put_state(out, session.device, session.present),
         Question::Load => load_calls::load(session.device, line, out),
         Question::LoadResolved => load_calls::load_resolved(session, line, out),
+        Question::Extra => {
+            layout_calls::put_extra(out, matrix_layout::extra_nodes(session.device))
+        }
+        Question::Cells => layout_calls::cells(session.device, line, out),
     }
 }
 

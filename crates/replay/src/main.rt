@@ -7,6 +7,7 @@ mod device_text;
 mod function_calls;
 mod key_calls;
 mod key_lists;
+mod layout_calls;
 mod load_calls;
 mod prefixes;
 mod replies;

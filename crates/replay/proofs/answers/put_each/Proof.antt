@@ -37,7 +37,7 @@ loop-again : tie.Need-loop-again Inv-loop μ-loop
 loop-again c =
     let A = c .before .before .before .before .before .before .before .before .before .args in let L = c .before .before .before .before .before .before .loop in let P = c .before .before .put-next in
     let w : Written (L .out) (L .n) (nextText (getD (A .xs .now) (L .i) nan)) (P .result) (P .last .0) = record { ends = P .ensures .0; holds = P .ensures .1 } in
-    (omega arith, further (left-is (each-first (A .xs .now) (L .i) (omega arith)) (L .inv .1)) w)
+    (omega arith, further (left-is (each-first nextText (A .xs .now) (L .i) nan (omega arith)) (L .inv .1)) w)
 
 same-length : tie.Need-same-length Inv-loop μ-loop
 same-length c = c .before .loop .inv .1 .same
@@ -45,7 +45,7 @@ same-length c = c .before .loop .inv .1 .same
 returns : tie.Need-returns Inv-loop μ-loop
 returns c =
     let A = c .before .before .before .before .args in let L = c .before .loop in
-    let all = finished (left-is (each-end (A .xs .now) (L .i) (omega arith)) (L .inv .1)) in
+    let all = finished (left-is (each-end nextText (A .xs .now) (L .i) (omega arith)) (L .inv .1)) in
     (all .ends, all .holds)
 
 pub put-each-spec : {M : Type 1} → statement M
