@@ -29,6 +29,7 @@ nextText x = 32 ∷ numberText x
 unfoldable pub itemText : Float → List ℕ
 itemText x = 44 ∷ numberText x
 
+-- a whole number likewise
 unfoldable pub nextWholeText : ℕ → List ℕ
 nextWholeText x = 32 ∷ wholeText x
 
@@ -45,12 +46,14 @@ unfoldable pub listBy : {A : Type 0} → (A → List ℕ) → (A → List ℕ) �
 listBy first further [] = 32 ∷ 45 ∷ []
 listBy first further (x ∷ xs) = first x ++ eachBy further xs
 
+-- floats, each after a space, and a list of them
 abbrev pub eachText : List Float → List ℕ
 eachText xs = eachBy nextText xs
 
 abbrev pub listText : List Float → List ℕ
 listText xs = listBy nextText itemText xs
 
+-- whole numbers likewise
 abbrev pub placesText : List ℕ → List ℕ
 placesText xs = eachBy nextWholeText xs
 

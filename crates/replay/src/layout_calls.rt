@@ -89,7 +89,7 @@ fn put_layout(
     put_wholes(out, e, lengths)
 }
 
-// Slices that no words lent were laid out for nothing, as a load is (`load_calls::put_load`).
+// Words that are not three lists are bad, whatever the layout answered, which was then made for nothing (as in `load_calls::put_load`).
 fn put_cells(
     out: &mut [u8],
     w: LentWords,
