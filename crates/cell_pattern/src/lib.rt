@@ -18,6 +18,7 @@ pub struct Needed {
     pub rows: usize,
 }
 
+// A cell's row and column, of its number.
 fn row_of(cell: u64) -> usize
     ensures { λ r. ⌜ r ≡ cell / rowWidth ⌝ }
 {

@@ -15,6 +15,7 @@ pub struct CellList {
     pub count: usize,
 }
 
+// Of two numbers the one that an insertion stores, and below it the one that it carries on.
 fn lower(x: u64, y: u64) -> u64
     ensures { λ r. ⌜ r ≡ lowerOf x y ⌝ }
 {
@@ -72,7 +73,7 @@ fn insert_cell(list: CellList, row: usize, column: usize) -> CellList
     insert(list, row as u64 * 4294967296 + column as u64)
 }
 
-// The array starts with ones: zeros would be filled in by a call of memset, and the library is to need no symbol but memcpy.
+// The cells of all positions, put in one after the other. The array starts with ones: zeros would be filled in by a call of memset, and the library is to need no symbol but memcpy.
 fn insert_cells(rows: [usize; 44], columns: [usize; 44]) -> CellList
     ensures { λ r. ⌜ Listed (carryCellsOf rows columns []) (r .numbers) (r .count) ⌝ }
 {
@@ -88,7 +89,7 @@ fn insert_cells(rows: [usize; 44], columns: [usize; 44]) -> CellList
     list
 }
 
-// The rows and the columns of the positions, in order.
+// The rows of the 44 positions in their order, by index: the channel's eight, four of RD, RS and each junction, four of each charge branch.
 fn rows(t: Terminals) -> [usize; 44]
     ensures { λ r. ⌜ r ≡ rowIndices (positionsOf t) ⌝ }
 {
@@ -147,6 +148,7 @@ fn rows(t: Terminals) -> [usize; 44]
     ]
 }
 
+// Their columns.
 fn columns(t: Terminals) -> [usize; 44]
     ensures { λ r. ⌜ r ≡ columnIndices (positionsOf t) ⌝ }
 {

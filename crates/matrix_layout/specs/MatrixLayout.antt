@@ -31,7 +31,7 @@ abbrev pub outcomeOfExtraNodes : ExtraNodesAnswer → Outcome ℕ
 outcomeOfExtraNodes (ExtraNodes.Nodes n) = done n
 outcomeOfExtraNodes (ExtraNodes.Refused n) = refused n
 
--- row 8: a node of a bound device is above 2^32 - 1, which binding accepts of none, but a record from elsewhere may hold it; row 10: before
+-- row 8: a node of a bound device is above 2^32 - 1. Binding accepts none such, but a record that a caller wrote may hold one. Row 10: before
 -- binding there are no nodes
 abbrev pub layoutRows : Mosfet1 → List Row
 layoutRows d = (8 when (not (unbound (d .stage)) && anyNodeBeyond nodeLimit (d .terminals))) ∷ (10 when unbound (d .stage)) ∷ []
