@@ -6,7 +6,7 @@ use Prim.Native.Nat.{ℕ, zero, suc, _+_, _-_, _/_, _%_, _≤_, _<_, zero-le, su
 use native.Mathlib.Nat.{le-of-suc-le-suc, not-suc-le-zero, suc-add, add-suc, add-zero, zero-add}
 use native.Mathlib.Numerals.{add-one}
 use native.Mathlib.Omega.{arith}
-use lib.ListN.{length, getD, take, drop, set, length-append, length-drop, length-set}
+use lib.ListN.{length, getD, take, drop, set, length-set}
 use lib.Seq.{drop-cons, take-suc, set-at, append-snoc, length-take-le, take-length}
 use lib.Dec.{ltb, eqb}
 use borrow.Author.Tests.{ltb-true, ltb-false, le-ltb, eqb-true, eqb-false}
@@ -166,9 +166,6 @@ module _ (s d : List ℕ) where
 
   pub put-all : (j : ℕ) → j ≡ length s → take j s ++ drop j d ≡ over s d
   put-all j e = rw (e, take-length s)
-
-  pub put-length : (j : ℕ) → j ≤ length s → length s ≤ length d → length (take j s ++ drop j d) ≡ length d
-  put-length j h k = omega (arith, length-append (take j s) (drop j d), length-take-le j s h, length-drop j d)
 
 -- a slice that held d, with the first j of s written over it
 pub record Written (s d : List ℕ) (j : ℕ) (xs : List ℕ) : Type 0 where

@@ -13,7 +13,6 @@ use Rattle.device.specs.Nodes.{nodeBeyond}
 use Rattle.device.specs.declared.NodeId.{NodeId}
 use Rattle.device.specs.declared.NodeId.the-variants.{At}
 use Rattle.device.specs.declared.Terminals.{Terminals}
-use Rattle.places.specs.Places.{Pattern}
 use Rattle.cells.specs.Cells.{rowWidth, cellsOf}
 use Rattle.cells.specs.Steps.{Listed}
 use Rattle.cells.proofs.Indices.{below}
@@ -105,17 +104,3 @@ module _ (t : Terminals) where
 -- the written front of a slice, which a load is handed
 pub front : (xs slice : List ℕ) (n : ℕ) → n ≡ length xs → take n (over xs slice) ≡ xs
 front xs slice n e = rw (e) (take-append-seam xs (drop (length xs) slice))
-
--- where the slices were long enough, their fronts are the pattern
-pub laid-fronts : (t : Terminals) (cs os ls cs' os' ls' : List ℕ) (columns rows : ℕ) → LaidOut (patternOf t) cs os ls cs' os' ls'
-    → columns ≡ length (cellsOf t) → rows ≡ rowCount t → haveRoom columns rows (length cs) (length os) (length ls) ≡ true
-    → _≡_ {A = Pattern} (record { columns = take columns cs'; offsets = take rows os'; lengths = take rows ls' }) (patternOf t)
-laid-fronts t cs os ls cs' os' ls' columns rows l ec er e =
-    let room : haveRoom (length (patternOf t .columns)) (length (patternOf t .offsets)) (length cs) (length os) (length ls) ≡ true = (
-    ap (λ (n : ℕ). haveRoom n (length (patternOf t .offsets)) (length cs) (length os) (length ls)) (pattern-columns t ∙ sym ec)
-    ∙ ap (λ (n : ℕ). haveRoom columns n (length cs) (length os) (length ls)) (pattern-rows t ∙ sym er)
-    ∙ e) in
-    let c : take columns cs' ≡ patternOf t .columns = ap (take columns) (l .columns-are) ∙ rw (room) (front (patternOf t .columns) cs columns (ec ∙ sym (pattern-columns t))) in
-    let o : take rows os' ≡ patternOf t .offsets = ap (take rows) (l .offsets-are) ∙ rw (room) (front (patternOf t .offsets) os rows (er ∙ sym (pattern-rows t))) in
-    let n : take rows ls' ≡ patternOf t .lengths = ap (take rows) (l .lengths-are) ∙ rw (room) (front (patternOf t .lengths) ls rows (er ∙ sym (pattern-row-lengths t))) in
-    λ i. record { columns = c i; offsets = o i; lengths = n i }
