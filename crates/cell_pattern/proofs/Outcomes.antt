@@ -13,8 +13,7 @@ use Rattle.device.specs.Nodes.{nodeBeyond}
 use Rattle.device.specs.declared.NodeId.{NodeId}
 use Rattle.device.specs.declared.NodeId.the-variants.{At}
 use Rattle.device.specs.declared.Terminals.{Terminals}
-use Rattle.cells.specs.Cells.{rowWidth, cellsOf}
-use Rattle.cells.specs.Steps.{Listed}
+use Rattle.cells.specs.Cells.{rowWidth, cellsOf, Listed}
 use Rattle.cells.proofs.Indices.{below}
 use Rattle.cell_pattern.specs.CellPattern.{haveRoom, rowCount, patternIn, patternOf, columnsIn, lengthsIn, runningOffsets, over, LaidOut}
 use Rattle.cell_pattern.proofs.Counts.{length-columns, length-offsets, length-lengths}

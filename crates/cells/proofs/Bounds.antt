@@ -57,9 +57,9 @@ above x k (y ∷ ys) r h = go (eqb k y) refl h (λ g. above y k ys (and-right (l
     go true p h f = let l = ltb-true x y (and-left _ _ r) in let e = eqb-true k y p in omega arith
     go false p h f = let l = ltb-true x y (and-left _ _ r) in let m = f h in omega arith
 
-or-right : (a b : Bool) → b ≡ true → (a || b) ≡ true
-or-right true b e = refl
-or-right false b e = e
+pub or-true : (a b : Bool) → b ≡ true → (a || b) ≡ true
+or-true true b e = refl
+or-true false b e = e
 
 -- a rising list of numbers of another is not longer
 pub no-longer : (xs ys : List ℕ) → rising xs ≡ true → ((k : ℕ) → holds k xs ≡ true → holds k ys ≡ true) → length xs ≤ length ys
@@ -68,7 +68,7 @@ no-longer [] ys r f = zero-le
 no-longer (x ∷ xs) ys r f =
     let h = one-less x ys (f x (rw (eq-eqb x x refl))) in
     let l = no-longer xs (without x ys) (rising-tail x xs r)
-    (λ k e. others x k ys (λ q. let a = above x k xs r e in omega arith) (f k (or-right (eqb k x) _ e))) in
+    (λ k e. others x k ys (λ q. let a = above x k xs r e in omega arith) (f k (or-true (eqb k x) _ e))) in
     omega arith
 
 -- positions picked from others by their places
@@ -105,7 +105,7 @@ picked-one : (k j : ℕ) (ps : List Position) → has k (getD ps j (position Gro
 unfolding cellNumbers has
 picked-one k j [] h = no h
 picked-one k zero (p ∷ ps) h = has-before k (p .row) (p .col) (cellNumbers ps) ∙ or-left _ _ h
-picked-one k (suc j) (p ∷ ps) h = has-before k (p .row) (p .col) (cellNumbers ps) ∙ or-right (has k (p .row) (p .col)) _ (picked-one k j ps h)
+picked-one k (suc j) (p ∷ ps) h = has-before k (p .row) (p .col) (cellNumbers ps) ∙ or-true (has k (p .row) (p .col)) _ (picked-one k j ps h)
 
 picked : (k : ℕ) (js : List ℕ) (ps : List Position) → holds k (cellNumbers (pick js ps)) ≡ true → holds k (cellNumbers ps) ≡ true
 unfolding cellNumbers pick holds

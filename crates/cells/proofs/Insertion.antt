@@ -8,8 +8,8 @@ use native.Mathlib.Omega.{arith}
 use lib.ListN.{length, getD, take, drop, set, replicate, take-append-drop, drop-of-length-le}
 use lib.Seq.{slice, slice-empty, slice-cons, drop-cons, take-suc-set, take-set-lt, drop-set-lt, append-snoc, take-take, drop-drop, length-take-le}
 use borrow.Author.Tests.{eq-eqb, ne-eqb, lt-ltb, le-ltb}
-use Rattle.cells.specs.Cells.{rowWidth, cellNumber}
-use Rattle.cells.specs.Steps.{Listed, carryOf, lowerOf, higherOf, carryCellOf, carryCellsOf}
+use Rattle.cells.specs.Cells.{rowWidth, cellNumber, Listed}
+use Rattle.cells.specs.Steps.{carryOf, lowerOf, higherOf, carryCellOf, carryCellsOf}
 
 abbrev pub state : List ℕ → ℕ → ℕ → ℕ → List ℕ
 state numbers count carried i = take i numbers ++ carryOf carried (slice i count numbers)
@@ -43,7 +43,7 @@ pub at-end : (numbers : List ℕ) (count carried i : ℕ) → i ≡ count → co
 unfolding carryOf
 at-end numbers count carried i e h = rw (e, add-one, slice-empty, take-suc-set numbers count carried h)
 
-and-no : (a : Bool) → (a && false) ≡ false
+pub and-no : (a : Bool) → (a && false) ≡ false
 and-no true = refl
 and-no false = refl
 

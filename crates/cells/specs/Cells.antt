@@ -4,7 +4,7 @@ use Prim.Native.Nat.{ℕ, _+_, _*_, _<_, _≤_}
 use mathlib.Core.Path.{_≡_}
 use mathlib.Core.Bool.{Bool, true, false, cond, _&&_, _||_}
 use mathlib.Core.List.{List, [], _∷_, _++_}
-use lib.ListN.{length}
+use lib.ListN.{length, drop, replicate}
 use lib.Dec.{ltb, eqb}
 use Rattle.pattern.specs.Pattern.{rising}
 use Rattle.device.specs.declared.NodeId.{NodeId}
@@ -54,6 +54,11 @@ insertAllOf (x ∷ xs) list = insertAllOf xs (insertOf x list)
 -- the list of cells
 unfoldable pub cellsOf : Terminals → List ℕ
 cellsOf t = insertAllOf (cellNumbers (positionsOf t)) []
+
+-- how the code holds it: so many numbers of an array of 44, and ones behind them
+pub record Listed (xs numbers : List ℕ) (count : ℕ) : Type 0 where
+  pub counted : count ≡ length xs
+  pub whole : numbers ≡ xs ++ drop (length xs) (replicate 44 1)
 
 -- whether a number stands in a list
 unfoldable pub holds : ℕ → List ℕ → Bool

@@ -2,8 +2,8 @@
 use Prim.Native.Nat.{ℕ, _+_, _≤_}
 use mathlib.Core.Path.{_≡_}
 use mathlib.Core.Bool.{cond, _&&_}
-use mathlib.Core.List.{List, [], _∷_, _++_}
-use lib.ListN.{length, take, drop, replicate}
+use mathlib.Core.List.{List, [], _∷_}
+use lib.ListN.{take, drop}
 use lib.Dec.{ltb, eqb}
 use Rattle.stamps.specs.declared.Position.{Position}
 use Rattle.places.specs.Places.{indexOf}
@@ -36,11 +36,6 @@ unfoldable pub carryCellsOf : List ℕ → List ℕ → List ℕ → List ℕ
 carryCellsOf [] cs xs = xs
 carryCellsOf (r ∷ rs) [] xs = xs
 carryCellsOf (r ∷ rs) (c ∷ cs) xs = carryCellsOf rs cs (carryCellOf r c xs)
-
--- the list in front of ones: an array and how many of its numbers are the list
-pub record Listed (xs numbers : List ℕ) (count : ℕ) : Type 0 where
-  pub counted : count ≡ length xs
-  pub whole : numbers ≡ xs ++ drop (length xs) (replicate 44 1)
 
 -- an array whose first numbers are the list: one more of them than before, or as many, and those behind them as they were
 pub record Grown (xs before : List ℕ) (old : ℕ) (numbers : List ℕ) (count : ℕ) : Type 0 where

@@ -6,8 +6,8 @@ ghost use mathlib.Core.List.{[]};
 ghost use Prim.Native.Nat.{_<_};
 ghost use lib.ListN.{take};
 ghost use Rattle.device.specs.Nodes.{anyNodeBeyond};
-ghost use Rattle.cells.specs.Cells.{rowWidth, positionsOf, cellsOf};
-ghost use Rattle.cells.specs.Steps.{lowerOf, higherOf, carryOf, carryCellOf, carryCellsOf, rowIndices, columnIndices, Listed, Grown};
+ghost use Rattle.cells.specs.Cells.{rowWidth, positionsOf, cellsOf, Listed};
+ghost use Rattle.cells.specs.Steps.{lowerOf, higherOf, carryOf, carryCellOf, carryCellsOf, rowIndices, columnIndices, Grown};
 
 // Cells, each as row · 2^32 + column, in rising order: the first `count` numbers, and ones behind them.
 pub struct CellList {

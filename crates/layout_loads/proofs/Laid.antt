@@ -18,6 +18,7 @@ use Rattle.assembly.specs.Assembly.{foundPlace, placeOf, there}
 use Rattle.resolve.specs.Resolve.{positionsThere}
 use Rattle.cells.specs.Cells.{rowWidth, cellNumber, cellBefore, cellNumbers, positionsOf, cellsOf, holds}
 use Rattle.cells.proofs.Members.{cells-rise, cells-hold, stands}
+use Rattle.cells.proofs.Bounds.{or-true}
 use Rattle.cells.proofs.Indices.{or-left, or-right, anyEndBeyond, below, positions-below}
 use Rattle.cell_pattern.specs.CellPattern.{rowsTo, largerOf, rowCount, patternIn, patternOf}
 use Rattle.cell_pattern.proofs.Fits.{well-formed, found}
@@ -74,10 +75,6 @@ nodes-have-rows t m h =
 
 -- positions whose cells are all in a list of cells that a pattern of n rows holds
 module _ (ks : List ℕ) (n : ℕ) (found-in : (r c : ℕ) → r < n → c < rowWidth → holds (cellNumber r c) ks ≡ true → there (placeOf (patternIn ks n) (At r) (At c)) ≡ true) where
-  or-true : (a b : Bool) → b ≡ true → (a || b) ≡ true
-  or-true true b e = refl
-  or-true false b e = e
-
   tail-holds : (a b : NodeId) (js : List ℕ) (k : ℕ) → holds k js ≡ true → holds k (cellBefore a b js) ≡ true
   unfolding holds cellBefore
   tail-holds Ground b js k e = e

@@ -23,6 +23,7 @@ use Rattle.loading.specs.declared.LoadKind.{LoadKind}
 use Rattle.resolve.specs.Resolve.{positionsThere, resolvedCells, resolveRows, resolveOf}
 use Rattle.resolved_loads.proofs.ResolvedLoads.{same-answer}
 use Rattle.cells.specs.Cells.{rowWidth, positionsOf, cellsOf}
+use Rattle.cells.proofs.Insertion.{and-no}
 use Rattle.cells.proofs.Bounds.{at-most-22}
 use Rattle.cell_pattern.specs.CellPattern.{rowCount, patternOf}
 use Rattle.cell_pattern.specs.declared.Needed.{Needed}
@@ -33,10 +34,6 @@ use Rattle.layout_loads.specs.LayoutLoads.{writtenPattern, EveryLoadFits
 use Rattle.layout_loads.proofs.Contributions.{append-left, contributions-there}
 use Rattle.layout_loads.proofs.Laid.{nodes-have-rows, pattern-holds, pattern-well}
 use Rattle.layout_loads.proofs.Binding.{nodes-stay}
-
-and-false : (a : Bool) → (a && false) ≡ false
-and-false true = refl
-and-false false = refl
 
 -- no row of the number m applies
 abbrev NoneNumbered : ℕ → List Row → Type 0
@@ -81,7 +78,7 @@ module _ (d : Mosfet1) (w : anyNodeBeyond rowWidth (d .terminals) ≡ false) whe
   unfolding loadOf nodesOutside
   load-8 k rhs values h =
       never Unit tt 8 (loadRows d k P rhs values) (apart 0 8 refl)
-      ((λ e. rw (not-outside (length rhs) h, not-outside (length (P .offsets)) (omega arith)) (and-false (not (unbound (d .stage))))), (apart 10 8 refl, (apart 11 8 refl, (apart 12 8 refl, (apart 13 8 refl, tt)))))
+      ((λ e. rw (not-outside (length rhs) h, not-outside (length (P .offsets)) (omega arith)) (and-no (not (unbound (d .stage))))), (apart 10 8 refl, (apart 11 8 refl, (apart 12 8 refl, (apart 13 8 refl, tt)))))
 
   pairs-there : positionsThere P (jacPairsOf (d .terminals)) ≡ true
   unfolding positionsOf
@@ -91,7 +88,7 @@ module _ (d : Mosfet1) (w : anyNodeBeyond rowWidth (d .terminals) ≡ false) whe
   unfolding resolveOf
   lookup m z t =
       never (List ℕ) (resolvedCells (d .terminals) P) m (resolveRows d P) z (
-        (λ e. rw (not-outside (length (P .offsets)) (omega arith)) (and-false (not (unbound (d .stage))))),
+        (λ e. rw (not-outside (length (P .offsets)) (omega arith)) (and-no (not (unbound (d .stage))))),
         ((λ e. absurd (t e)), ((λ e. ap not well), ((λ e. ap not pairs-there), tt))),
       )
 

@@ -122,6 +122,15 @@ or-second false y h = refl
 or-second true true h = refl
 or-second true false h = sym (h refl)
 
+or-same : (a : Bool) → (a || a) ≡ a
+or-same true = refl
+or-same false = refl
+
+-- row 8 by one length
+pub outside-same : (stage : Stage) (t : Terminals) (n : ℕ) → nodesOutside stage t n n ≡ (not (unbound stage) && anyNodeBeyond n t)
+unfolding nodesOutside
+outside-same stage t n = ap (λ (b : Bool). not (unbound stage) && b) (or-same (anyNodeBeyond n t))
+
 -- row 8 by the smaller of the two lengths
 module _ (stage : Stage) (t : Terminals) (len rows : ℕ) (bound : unbound stage ≡ false) where
   pub outside-len : len ≤ rows → anyNodeBeyond len t ≡ nodesOutside stage t len rows

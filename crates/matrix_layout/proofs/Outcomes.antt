@@ -1,7 +1,7 @@
 -- What the call answers and leaves, by its tests.
 use Prim.Native.Nat.{ℕ}
-use mathlib.Core.Path.{_≡_, refl, sym, _∙_}
-use mathlib.Core.Bool.{Bool, true, false, not, _&&_, _||_}
+use mathlib.Core.Path.{_≡_, sym, _∙_}
+use mathlib.Core.Bool.{Bool, true, false, not, _&&_}
 use mathlib.Core.List.{List}
 use lib.ListN.{length}
 use Rattle.device.specs.Nodes.{anyNodeBeyond}
@@ -11,24 +11,19 @@ use Rattle.device.specs.declared.Stage.the-variants.{Bound}
 use Rattle.device.specs.declared.Mosfet1.{Mosfet1}
 use Rattle.setup.specs.Binding.{nodeLimit}
 use Rattle.loading.specs.Loading.{nodesOutside}
+use Rattle.loading.proofs.Rows.{outside-same}
 use Rattle.cells.specs.Cells.{cellsOf}
 use Rattle.cell_pattern.specs.CellPattern.{rowCount, patternOf, LaidOut}
 use Rattle.cell_pattern.specs.declared.Needed.{Needed}
 use Rattle.cell_pattern.proofs.Outcomes.{pattern-columns, pattern-rows}
 use Rattle.matrix_layout.specs.MatrixLayout.{layoutOf, isWritten, atExit, Layout}
 
-twice : (a b : Bool) → (a && (b || b)) ≡ (a && b)
-twice true true = refl
-twice true false = refl
-twice false b = refl
-
 module _ (d : Mosfet1) where
   abbrev outside : Bool
   outside = not (unbound (d .stage)) && anyNodeBeyond nodeLimit (d .terminals)
 
   same : nodesOutside (d .stage) (d .terminals) nodeLimit nodeLimit ≡ outside
-  unfolding nodesOutside
-  same = twice (not (unbound (d .stage))) (anyNodeBeyond nodeLimit (d .terminals))
+  same = outside-same (d .stage) (d .terminals) nodeLimit
 
   pub row-8 : nodesOutside (d .stage) (d .terminals) nodeLimit nodeLimit ≡ true → refused 8 ≡ layoutOf d
   unfolding layoutOf

@@ -1,6 +1,6 @@
 -- The rows in their order, and the outcome by what each test found.
 use mathlib.Core.Path.{_≡_, refl, sym, ap, _∙_}
-use mathlib.Core.Bool.{Bool, true, false, cond, not, _&&_, _||_}
+use mathlib.Core.Bool.{Bool, true, false, cond, not, _&&_}
 use mathlib.Core.List.{List, [], _∷_, _++_}
 use Prim.Native.Nat.{ℕ, _≤_}
 use native.Mathlib.Omega.{arith}
@@ -9,7 +9,6 @@ use Rattle.pattern.specs.Pattern.{wellFormed}
 use Rattle.device.specs.Nodes.{anyNodeBeyond}
 use Rattle.device.specs.Refusals.{done, refused, rowNumber, unless, _when_}
 use Rattle.device.specs.Stages.{unbound}
-use Rattle.device.specs.declared.Stage.{Stage}
 use Rattle.device.specs.declared.Terminals.{Terminals}
 use Rattle.device.specs.declared.Mosfet1.{Mosfet1}
 use Rattle.stamps.specs.Stamps.{jacPairsOf, jacValuesOf}
@@ -17,17 +16,7 @@ use Rattle.places.specs.Places.{missingNumber, noneMissing, nodesOf, numbersOf}
 use Rattle.places.specs.declared.Nodes.{Nodes}
 use Rattle.assembly.specs.Assembly.{Pattern, allThere, paired}
 use Rattle.assembly.proofs.Cells.{well-small, numbers-there}
-use Rattle.loading.specs.Loading.{nodesOutside}
 use Rattle.resolve.specs.Resolve.{nodeNumbers, gatePairsOf, positionsThere, resolvedCells, resolveOf, earlyRowOf}
-
-or-same : (a : Bool) → (a || a) ≡ a
-or-same true = refl
-or-same false = refl
-
--- row 8 by one length
-pub outside-same : (stage : Stage) (t : Terminals) (n : ℕ) → nodesOutside stage t n n ≡ (not (unbound stage) && anyNodeBeyond n t)
-unfolding nodesOutside
-outside-same stage t n = ap (λ (b : Bool). not (unbound stage) && b) (or-same (anyNodeBeyond n t))
 
 early-refuses : {A : Type 0} (a b c d : Bool) (x : A) → (rowNumber ((8 when a) ∷ (10 when b) ∷ (12 when c) ∷ []) ≡ 0 → ⊥)
     → unless ((8 when a) ∷ (10 when b) ∷ (12 when c) ∷ (13 when d) ∷ []) refused (done x) ≡ refused (rowNumber ((8 when a) ∷ (10 when b) ∷ (12 when c) ∷ []))

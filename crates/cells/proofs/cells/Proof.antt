@@ -2,8 +2,7 @@ use mathlib.Core.Path.{subst}
 use mathlib.Core.List.{List}
 use Prim.Native.Nat.{ℕ}
 use borrow.Author.Needs.{needs}
-use Rattle.cells.specs.Cells.{cellsOf}
-use Rattle.cells.specs.Steps.{Listed}
+use Rattle.cells.specs.Cells.{cellsOf, Listed}
 use Rattle.cells.proofs.Indices.{by-terminals}
 use Rattle.cells.proofs.cells.Statement.{statement}
 use Rattle.cells.proofs.cells.Tie as tie

@@ -1,7 +1,7 @@
 -- `resolve::early_row`: the first row that applies decides.
 use borrow.Author.Tests.{not-true, not-false}
 use Rattle.resolve.specs.Resolve.{earlyRowOf}
-use Rattle.resolve.proofs.Outcomes.{outside-same}
+use Rattle.loading.proofs.Rows.{outside-same}
 use borrow.Author.Needs.{needs}
 use Rattle.resolve.proofs.early_row.Statement.{statement}
 use Rattle.resolve.proofs.early_row.Tie as tie
