@@ -129,7 +129,8 @@ fn no_branches() -> ChargeBranches
     }
 }
 
-fn branches(device: Mosfet1, kind: LoadKind) -> ChargeBranches
+// The charge branches of a load: none at direct current.
+pub fn branches(device: Mosfet1, kind: LoadKind) -> ChargeBranches
     ensures { λ r. ⌜ r ≡ branchesOf device kind ⌝ }
 {
     match kind {
