@@ -1,0 +1,5 @@
+pub mod InOrder
+pub mod Accepted
+pub mod EveryDevice
+pub mod Cancelling
+pub mod Others
