@@ -1,3 +1,4 @@
 pub mod Numbers
 pub mod Answers
 pub mod Loads
+pub mod Resolved

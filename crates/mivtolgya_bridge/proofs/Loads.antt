@@ -25,7 +25,7 @@ unfolding zeroed
 length-zeroed [] = refl
 length-zeroed (x ∷ xs) = ap suc (length-zeroed xs)
 
-behind-14 : (b : Bool) (more : List Row) → rowNumber ((14 when b) ∷ more) ≡ 0 → (b ≡ false) × (rowNumber more ≡ 0)
+pub behind-14 : (b : Bool) (more : List Row) → rowNumber ((14 when b) ∷ more) ≡ 0 → (b ≡ false) × (rowNumber more ≡ 0)
 behind-14 true more e = absurd (omega arith)
 behind-14 false more e = (refl, e)
 

@@ -11,6 +11,7 @@ use Rattle.device.specs.Refusals.{number}
 use Rattle.loading.specs.Loading.{ifDone}
 use Rattle.record_loading.specs.Load.{kindFrom}
 use Rattle.device_bank.specs.Bank.{devicesOf, bankGood}
+use Rattle.bank_resolved.specs.Resolved.{bridgeCelledOf, bridgeCelledSlices}
 use Rattle.bridge.specs.Bridge.{bridgeOf, bridgeSlices, blockOf, blockSlices, withPart}
 
 -- every tag of the bank's records is known, and so is the kind of the load
@@ -53,3 +54,18 @@ blockMatrix bank block starts counts transient alpha P rhs values =
     let ds = devicesOf bank in
     let k = kindFrom transient alpha in
     cond (goodLoads bank transient) (ifDone (blockOf ds block starts counts k P rhs values) (blockSlices ds block starts counts k P rhs values .matrix) values) values
+
+-- ---- the whole bridge by cells that were looked up before, a list of 37 numbers for each device
+unfoldable pub resolvedBridgeCall : List (List Float) → List ℕ → List ℕ → ℕ → Float → List (List ℕ) → List Float → List Float → ℕ
+resolvedBridgeCall bank starts counts transient alpha cells rhs values =
+    cond (goodLoads bank transient) (number (bridgeCelledOf bank starts counts (kindFrom transient alpha) cells rhs values)) 100
+
+unfoldable pub resolvedBridgeSide : List (List Float) → List ℕ → List ℕ → ℕ → Float → List (List ℕ) → List Float → List Float → List Float
+resolvedBridgeSide bank starts counts transient alpha cells rhs values =
+    let k = kindFrom transient alpha in
+    cond (goodLoads bank transient) (ifDone (bridgeCelledOf bank starts counts k cells rhs values) (bridgeCelledSlices bank k cells rhs values .side) rhs) rhs
+
+unfoldable pub resolvedBridgeMatrix : List (List Float) → List ℕ → List ℕ → ℕ → Float → List (List ℕ) → List Float → List Float → List Float
+resolvedBridgeMatrix bank starts counts transient alpha cells rhs values =
+    let k = kindFrom transient alpha in
+    cond (goodLoads bank transient) (ifDone (bridgeCelledOf bank starts counts k cells rhs values) (bridgeCelledSlices bank k cells rhs values .matrix) values) values

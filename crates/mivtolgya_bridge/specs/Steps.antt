@@ -3,6 +3,7 @@
 use Prim.Native.Nat.{ℕ}
 use mathlib.Core.Bool.{cond}
 use mathlib.Core.List.{List, _∷_}
+use lib.Dec.{ltb}
 use lib.ListN.{length, getD}
 use lib.Ieee.{Float}
 use Rattle.assembly.specs.Assembly.{Pattern}
@@ -10,6 +11,7 @@ use Rattle.device.specs.Refusals.{rowNumber, _when_}
 use Rattle.record_loading.specs.Load.{kindFrom}
 use Rattle.device_bank.specs.Bank.{devicesOf}
 use Rattle.bridge.specs.Runs.{bridgeRefused, blockRefused}
+use Rattle.bank_resolved.specs.Resolved.{celledOf, celledRows}
 use Rattle.bridge.specs.Bridge.{devicesRows}
 use Rattle.mivtolgya_bridge.specs.Calls.{goodLoads}
 
@@ -22,3 +24,8 @@ unfoldable pub blockNumber : List (List Float) → ℕ → List ℕ → List ℕ
 blockNumber bank block starts counts transient alpha P rows values =
     cond (goodLoads bank transient)
     (rowNumber ((14 when blockRefused block starts counts rows (length (devicesOf bank))) ∷ devicesRows (devicesOf bank) (kindFrom transient alpha) P (getD counts block 0) values)) 100
+
+unfoldable pub resolvedBridgeNumber : List (List Float) → List ℕ → List ℕ → ℕ → Float → List (List ℕ) → ℕ → ℕ → ℕ
+resolvedBridgeNumber bank starts counts transient alpha cells rows values =
+    cond (goodLoads bank transient)
+    (rowNumber ((14 when bridgeRefused starts counts rows (length bank)) ∷ celledRows (celledOf bank cells) (ltb (length cells) (length bank)) (kindFrom transient alpha) rows values)) 100

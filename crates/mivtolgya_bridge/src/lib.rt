@@ -1,10 +1,10 @@
 // The loads of a block and of a whole bridge for C and Rust on x86-64 (include/mivtolgya.h), an archive of its own beside mivtolgya's: with a
 // second caller in one archive the compiler would no longer make one function of the load of a single device, which then takes half as long
 // again. The devices are records of the caller's in a row, read where they lie. Everything is tested before the first write.
-ghost use Prim.Native.Nat.{_<_};
 ghost use mathlib.Core.Path.{_≡_};
-ghost use Rattle.mivtolgya_bridge.specs.Calls.{bridgeCall, bridgeSide, bridgeMatrix, blockCall, blockSide, blockMatrix};
-ghost use Rattle.mivtolgya_bridge.specs.Steps.{bridgeNumber, blockNumber};
+ghost use lib.ListN.{length};
+ghost use Rattle.mivtolgya_bridge.specs.Calls.{bridgeCall, bridgeSide, bridgeMatrix, blockCall, blockSide, blockMatrix, resolvedBridgeCall, resolvedBridgeSide, resolvedBridgeMatrix};
+ghost use Rattle.mivtolgya_bridge.specs.Steps.{bridgeNumber, blockNumber, resolvedBridgeNumber};
 
 // The number that a load of the whole bridge answers, by the lengths of its slices; 0 where nothing refuses it.
 fn bridge_number(
@@ -154,5 +154,57 @@ pub extern "C" fn mivtolgya_load_block(
         offsets,
         lengths,
     );
+    0
+}
+
+// The number of a load of the whole bridge by cells. The slices are only measured.
+fn resolved_number(
+    bank: &[[f64; 113]],
+    starts: &[usize],
+    counts: &[usize],
+    transient: u64,
+    alpha: f64,
+    cells: &[[usize; 37]],
+    rhs: &mut [f64],
+    values: &mut [f64],
+) -> u64
+    ensures { λ o. ⌜ (o ≡ resolvedBridgeNumber (now (bank .entry)) (now (starts .entry)) (now (counts .entry)) transient alpha (now (cells .entry)) (length (now (rhs .entry))) (length (now (values .entry))))
+        × ((now (rhs .exit) ≡ now (rhs .entry)) × (now (values .exit) ≡ now (values .entry))) ⌝ }
+{
+    if !device_bank::good_bank(bank) {
+        return 100;
+    }
+    if 1 < transient {
+        return 100;
+    }
+    if bridge::bridge_refused(starts, counts, rhs.len(), bank.len()) {
+        return 14;
+    }
+    bank_resolved::lowest_row(bank, transient, alpha, cells, rhs, values)
+}
+
+// The load of the whole bridge by the cells that `mivtolgya_resolve` answered for each of its devices, for the loop: no pattern, no search.
+#[no_mangle]
+pub extern "C" fn mivtolgya_load_bridge_resolved(
+    bank: &[[f64; 113]],
+    starts: &[usize],
+    counts: &[usize],
+    transient: u64,
+    alpha: f64,
+    cells: &[[usize; 37]],
+    rhs: &mut [f64],
+    values: &mut [f64],
+) -> u64
+    ensures { λ o. ⌜ (o ≡ resolvedBridgeCall (now (bank .entry)) (now (starts .entry)) (now (counts .entry)) transient alpha (now (cells .entry)) (now (rhs .entry)) (now (values .entry)))
+        × ((now (rhs .exit) ≡ resolvedBridgeSide (now (bank .entry)) (now (starts .entry)) (now (counts .entry)) transient alpha (now (cells .entry)) (now (rhs .entry)) (now (values .entry)))
+        × (now (values .exit) ≡ resolvedBridgeMatrix (now (bank .entry)) (now (starts .entry)) (now (counts .entry)) transient alpha (now (cells .entry)) (now (rhs .entry)) (now (values .entry)))) ⌝ }
+{
+    let number = resolved_number(bank, starts, counts, transient, alpha, cells, rhs, values);
+    if number != 0 {
+        return number;
+    }
+    device_bank::set_to_zero(rhs);
+    device_bank::set_to_zero(values);
+    bank_resolved::add_devices(bank, transient, alpha, cells, rhs, values);
     0
 }

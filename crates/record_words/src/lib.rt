@@ -252,6 +252,24 @@ pub fn record_of(w: &[f64; 113]) -> DeviceRecord
     }
 }
 
+// The same once more, for a second caller: a large function with two callers is not copied into them, and the record then goes through
+// memory, at 20 nanoseconds or more a device.
+pub fn record_again(w: &[f64; 113]) -> DeviceRecord
+    ensures { λ r. ⌜ r ≡ recordOf (now (w .entry)) ⌝ }
+{
+    DeviceRecord {
+        card: card_of(w),
+        geometry: geometry_of(w),
+        scaled: scaled_of(w),
+        terminals: terminals_of(w),
+        point: point_of(w),
+        charges: charges_of(w),
+        histories: histories_of(w),
+        method: method_of(w),
+        stage: whole_at(w, 112),
+    }
+}
+
 // ---- whether the tags are known, read from the tags' words alone
 
 // The OR of tags that may be 0 or 1 is 0 or 1 where each of them is, and above 1 where one is not.

@@ -1,0 +1,3 @@
+pub mod Celled
+pub mod Rows
+pub mod InTurn
