@@ -3,8 +3,8 @@
 // again. The devices are records of the caller's in a row, read where they lie. Everything is tested before the first write.
 ghost use mathlib.Core.Path.{_≡_};
 ghost use lib.ListN.{length};
-ghost use Rattle.mivtolgya_bridge.specs.Calls.{bridgeCall, bridgeSide, bridgeMatrix, blockCall, blockSide, blockMatrix, resolvedBridgeCall, resolvedBridgeSide, resolvedBridgeMatrix};
-ghost use Rattle.mivtolgya_bridge.specs.Steps.{bridgeNumber, blockNumber, resolvedBridgeNumber};
+ghost use Rattle.bridge_calls.specs.Calls.{bridgeCall, bridgeSide, bridgeMatrix, blockCall, blockSide, blockMatrix, resolvedBridgeCall, resolvedBridgeSide, resolvedBridgeMatrix};
+ghost use Rattle.bridge_calls.specs.Steps.{bridgeNumber, blockNumber, resolvedBridgeNumber};
 
 // The number that a load of the whole bridge answers, by the lengths of its slices; 0 where nothing refuses it.
 fn bridge_number(

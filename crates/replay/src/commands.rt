@@ -1,8 +1,5 @@
-// The commands of a script: what a line answers, and the session that it leaves.
-use crate::command::Apart;
-use crate::command::Change;
-use crate::command::Command;
-use crate::command::Question;
+// The commands of a script: what a line answers, and the session that it leaves. `command_of` numbers them.
+use crate::bridge_calls;
 use crate::command::command_of;
 use crate::device_calls;
 use crate::device_text;
@@ -10,66 +7,54 @@ use crate::function_calls;
 use crate::key_calls;
 use crate::layout_calls;
 use crate::load_calls;
-use crate::replies::Reply;
 use crate::replies::Session;
 use crate::replies::ended;
-use crate::replies::first_session;
-use crate::replies::left;
 use crate::replies::put_bad;
-use crate::replies::put_reply;
-use card::CardAnswer;
+use crate::replies::put_name;
 
-// A line that does not touch the device; one without an answer ends where it begins.
-fn apart(a: Apart, line: &[u8], out: &mut [u8]) -> usize {
-    match a {
-        Apart::Silent => 0,
-        Apart::Function => function_calls::put_call(out, line),
-        Apart::Unknown => put_bad(out),
-    }
-}
-
-fn asked(session: Session, question: Question, line: &[u8], out: &mut [u8]) -> usize {
-    match question {
-        Question::Noise => put_reply(out, device_calls::noise(session.device, line)),
-        Question::Reactances => put_reply(
-            out,
-            device_calls::reactances(small_signal::small_signal_reactances(session.device)),
-        ),
-        Question::State => device_text::put_state(out, session.device, session.present),
-        Question::Load => load_calls::load(session.device, line, out),
-        Question::LoadResolved => load_calls::load_resolved(session, line, out),
-        Question::Extra => {
-            layout_calls::put_extra(out, matrix_layout::extra_nodes(session.device))
-        }
-        Question::Cells => layout_calls::cells(session.device, line, out),
-    }
-}
-
-fn change(session: Session, change: Change, line: &[u8], out: &mut [u8]) -> Session {
-    let mut x = [0.0; 4096];
-    let request = device_calls::read_request(change, line, &mut x);
-    let o = device_calls::act(session.device, request, &x);
-    let reply = o.reply;
-    let end = put_reply(out, reply);
-    left(session, o.device, end)
-}
-
-// The first session again. A card with no keys is never refused.
-fn forget(session: Session) -> Session {
-    match card::from_model_params(false, &[], &[], &[], &[], &mut []) {
-        CardAnswer::Done(device, _) => first_session(device),
-        CardAnswer::Refused(_) => session,
+// Calls that read the device and leave it, and lines that do not touch it. A line without an answer ends where it begins.
+fn asked(
+    session: Session,
+    bank: &[[f64; 113]],
+    number: usize,
+    line: &[u8],
+    out: &mut [u8],
+) -> usize {
+    let words = session.words;
+    match number {
+        4 => function_calls::put_call(out, line),
+        9 => load_calls::load(words, line, out),
+        11 => load_calls::load_resolved(session, line, out),
+        12 => put_name(out, line),
+        13 => device_calls::noise(words, line, out),
+        14 => device_calls::reactances(words, out),
+        15 => device_text::put_state(out, words, session.present),
+        16 => layout_calls::extra(words, out),
+        17 => layout_calls::cells(words, line, out),
+        19 => bridge_calls::load(2, bank, line, out),
+        20 => bridge_calls::load(1, bank, line, out),
+        99 => 0,
+        _ => put_bad(out),
     }
 }
 
 // What a line answers: the answer's text stands in out from its start on, up to the end that the session keeps.
-pub fn answer(session: Session, line: &[u8], out: &mut [u8]) -> Session {
-    match command_of(line) {
-        Command::Aside(a) => ended(session, apart(a, line, out)),
-        Command::Asking(q) => ended(session, asked(session, q, line, out)),
-        Command::Changing(c) => change(session, c, line, out),
-        Command::Keys(reader, raw) => key_calls::call(session, reader, raw, line, out),
-        Command::Resolve => load_calls::resolve(session, line, out),
-        Command::Reset => ended(forget(session), put_reply(out, Reply::Reset)),
+pub fn answer(
+    session: Session,
+    bank: &mut [[f64; 113]; 65],
+    line: &[u8],
+    out: &mut [u8],
+) -> Session {
+    let number = command_of(line);
+    match number {
+        0..=3 => key_calls::call(session, number, line, out),
+        5..=8 => device_calls::change(session, number, line, out),
+        10 => load_calls::resolve(session, line, out),
+        18 => ended(
+            session,
+            number,
+            bridge_calls::place(bank, session, line, out),
+        ),
+        _ => ended(session, number, asked(session, bank, number, line, out)),
     }
 }

@@ -1,217 +1,207 @@
 // Scaling, binding, evaluation, commit, noise and reactances by the words of a line.
-use crate::command::Change;
+use crate::answers::put_each;
 use crate::command::place_of;
-use crate::key_lists::filled;
+use crate::device_words::device_of;
+use crate::device_words::words_of;
 use crate::prefixes::first_numbers;
-use crate::replies::Outcome;
-use crate::replies::Reply;
-use crate::script::number::Method;
-use crate::script::number::Node;
-use crate::script::number::Number;
-use crate::script::number::Whole;
-use crate::script::number::read_method;
-use crate::script::number::read_node;
-use crate::script::number::read_number;
-use crate::script::number::read_whole;
+use crate::readings::are_lists;
+use crate::readings::both;
+use crate::readings::filled;
+use crate::readings::method_of;
+use crate::readings::node_of;
+use crate::readings::number_of;
+use crate::readings::row_if;
+use crate::readings::whole_of;
+use crate::replies::Session;
+use crate::replies::left;
+use crate::replies::put_bound;
+use crate::replies::put_name;
+use crate::replies::put_noise;
+use crate::replies::put_reactances;
+use crate::replies::put_row;
 use crate::script::word::word;
-use crate::script_lists::Count;
+use bias::Answer;
 use device::Discretisation;
-use device::Mosfet1;
-use device::NodeId;
-use device::Terminals;
+use from_record::node_from;
 use model::calls::Commit;
 use model::calls::Evaluation;
-use model::small_signal::Noise;
-use model::small_signal::Reactances;
 use mosfet1::steps::Conditions;
-use setup::SetupAnswer;
+use record_setup::NodesRecord;
+use record_words::record_of;
 use temperature::Kelvin;
 
-// What a line asks of the device, or words that ask nothing. It is read before the device is handed on. The voltages of an evaluation
-// or a commit are as many first places of a lent list.
-pub enum Request {
-    Scale(f64),
-    Bind(NodeId, NodeId, NodeId, NodeId, u64),
-    Eval(bool, Conditions, usize),
-    Commit(usize),
-    Bad,
+// What a call leaves: the row that refuses it, 0 where none does, the device's words, and as many first numbers for the answer.
+struct Outcome {
+    row: u64,
+    words: [f64; 113],
+    numbers: [f64; 7],
+    count: usize,
+}
+
+// An outcome without numbers.
+fn no_numbers(row: u64, words: [f64; 113]) -> Outcome {
+    let numbers = [0.0; 7];
+    Outcome {
+        row,
+        words,
+        numbers,
+        count: 0,
+    }
 }
 
 // `scale KELVIN`
-fn read_scale(line: &[u8]) -> Request {
-    match read_number(word(line, 1)) {
-        Number::Is(kelvin) => Request::Scale(kelvin),
-        Number::Not => Request::Bad,
+fn scale(before: [f64; 113], line: &[u8]) -> Outcome {
+    let t = number_of(word(line, 1));
+    let o = record_setup::setup_model(record_of(&before), t.x);
+    no_numbers(row_if(t.good, o.refusal), record_words::words_of(o.device))
+}
+
+fn nodes_of(line: &[u8]) -> NodesRecord {
+    NodesRecord {
+        drain: node_of(word(line, 1)),
+        gate: node_of(word(line, 2)),
+        source: node_of(word(line, 3)),
+        bulk: node_of(word(line, 4)),
     }
 }
 
 // `bind D G S B FIRST`: the terminals and the first index for extra nodes
-fn read_binding(line: &[u8]) -> Request {
-    let Node::Is(drain) = read_node(word(line, 1)) else {
-        return Request::Bad;
-    };
-    let Node::Is(gate) = read_node(word(line, 2)) else {
-        return Request::Bad;
-    };
-    let Node::Is(source) = read_node(word(line, 3)) else {
-        return Request::Bad;
-    };
-    let Node::Is(bulk) = read_node(word(line, 4)) else {
-        return Request::Bad;
-    };
-    let Whole::Is(first) = read_whole(word(line, 5)) else {
-        return Request::Bad;
-    };
-    Request::Bind(drain, gate, source, bulk, first)
+fn bind(before: [f64; 113], line: &[u8]) -> Outcome {
+    let first = whole_of(word(line, 5));
+    let n = first.n as usize;
+    let o = record_setup::setup_instance(record_of(&before), nodes_of(line), n);
+    no_numbers(
+        row_if(first.good, o.refusal),
+        record_words::words_of(o.device),
+    )
 }
 
-// Two numbers, or words that are none.
-enum Two {
-    Are(f64, f64),
-    Not,
+// The words of an evaluation but its voltages.
+struct EvalWords {
+    good: bool,
+    transient: bool,
+    k: Conditions,
 }
 
-fn read_two(first: &[u8], second: &[u8]) -> Two {
-    let Number::Is(x) = read_number(first) else {
-        return Two::Not;
-    };
-    match read_number(second) {
-        Number::Is(y) => Two::Are(x, y),
-        Number::Not => Two::Not,
-    }
-}
-
-// `eval tran|dc KELVIN GMIN lim|nolim METHOD X`
-fn read_evaluation(line: &[u8], x: &mut [f64]) -> Request {
-    let kind = place_of(b"dc tran", word(line, 1));
-    let limiter = place_of(b"nolim lim", word(line, 4));
-    let n = filled(crate::script_lists::numbers(word(line, 6), x));
-    if kind > 1 || limiter > 1 || n > 65536 {
-        return Request::Bad;
-    }
-    let Two::Are(kelvin, gmin) = read_two(word(line, 2), word(line, 3)) else {
-        return Request::Bad;
-    };
-    match read_method(word(line, 5)) {
-        Method::Is(method) => {
-            Request::Eval(kind == 1, conditions(kelvin, gmin, limiter == 1, method), n)
-        }
-        Method::Not => Request::Bad,
-    }
-}
-
-fn conditions(kelvin: f64, gmin: f64, limiter: bool, method: Discretisation) -> Conditions {
+fn conditions(kelvin: f64, gmin: f64, limiter: usize, method: Discretisation) -> Conditions {
     Conditions {
         temperature: Kelvin(kelvin),
         gmin,
-        limiter,
+        limiter: limiter == 1,
         method,
     }
 }
 
+fn are_pairs(a: usize, b: usize) -> bool {
+    a < 2 && b < 2
+}
+
+fn eval_words(line: &[u8]) -> EvalWords {
+    let kind = place_of(b"dc tran", word(line, 1));
+    let kelvin = number_of(word(line, 2));
+    let gmin = number_of(word(line, 3));
+    let limiter = place_of(b"nolim lim", word(line, 4));
+    let m = method_of(word(line, 5));
+    let method = m.method;
+    let named = both(are_pairs(kind, limiter), m.good);
+    EvalWords {
+        good: both(named, both(kelvin.good, gmin.good)),
+        transient: kind == 1,
+        k: conditions(kelvin.x, gmin.x, limiter, method),
+    }
+}
+
+fn evaluated(row: u64, words: [f64; 113], a: Answer) -> Outcome {
+    let numbers = [a.vgs, a.vds, a.vth, a.ids, a.gm, a.gds, a.gmbs];
+    Outcome {
+        row,
+        words,
+        numbers,
+        count: 7,
+    }
+}
+
+fn after_eval(before: [f64; 113], good: bool, answer: Evaluation) -> Outcome {
+    match answer {
+        Evaluation::Done(e) => evaluated(row_if(good, 0), words_of(e.device), e.answer),
+        Evaluation::Refused(row) => no_numbers(row_if(good, record::wide(row)), before),
+    }
+}
+
+// `eval tran|dc KELVIN GMIN lim|nolim METHOD X`
+fn eval(before: [f64; 113], line: &[u8], x: &mut [f64]) -> Outcome {
+    let n = filled(crate::script_lists::numbers(word(line, 6), x));
+    let w = eval_words(line);
+    let answer = model::calls::eval(device_of(&before), first_numbers(x, n), w.transient, w.k);
+    after_eval(before, both(w.good, are_lists(n, 0)), answer)
+}
+
+fn after_commit(before: [f64; 113], good: bool, answer: Commit) -> Outcome {
+    match answer {
+        Commit::Done(made) => no_numbers(row_if(good, 0), words_of(made)),
+        Commit::Refused(row) => no_numbers(row_if(good, record::wide(row)), before),
+    }
+}
+
 // `commit X`
-fn read_commit(line: &[u8], x: &mut [f64]) -> Request {
-    match crate::script_lists::numbers(word(line, 1), x) {
-        Count::Is(n) => Request::Commit(n),
-        Count::Not => Request::Bad,
+fn commit(before: [f64; 113], line: &[u8], x: &mut [f64]) -> Outcome {
+    let n = filled(crate::script_lists::numbers(word(line, 1), x));
+    let answer = model::calls::commit_timestep(device_of(&before), first_numbers(x, n));
+    after_commit(before, are_lists(n, 0), answer)
+}
+
+// The call of a command's number.
+fn act(before: [f64; 113], number: usize, line: &[u8], x: &mut [f64]) -> Outcome {
+    match number {
+        5 => scale(before, line),
+        6 => bind(before, line),
+        7 => eval(before, line, x),
+        _ => commit(before, line, x),
     }
 }
 
-pub fn read_request(change: Change, line: &[u8], x: &mut [f64]) -> Request {
-    match change {
-        Change::Scale => read_scale(line),
-        Change::Bind => read_binding(line),
-        Change::Eval => read_evaluation(line, x),
-        Change::Commit => read_commit(line, x),
+fn put_binding(out: &mut [u8], words: [f64; 113]) -> usize {
+    let r = record_of(&words);
+    let t = r.terminals;
+    let extra = record_setup::num_extra_nodes(r);
+    put_bound(out, extra.count, node_from(t.drain), node_from(t.source))
+}
+
+// The answer of a command's number.
+fn put_outcome(out: &mut [u8], number: usize, line: &[u8], o: Outcome) -> usize {
+    if o.row != 0 {
+        return put_row(out, o.row);
     }
-}
-
-// A call that is not accepted leaves the device.
-fn kept(device: Mosfet1, reply: Reply) -> Outcome {
-    Outcome { device, reply }
-}
-
-fn after_scale(before: Mosfet1, answer: SetupAnswer) -> Outcome {
-    match answer {
-        SetupAnswer::Done(made) => kept(made, Reply::Scaled),
-        SetupAnswer::Refused(row) => kept(before, Reply::Refused(row)),
+    if number == 6 {
+        let words = o.words;
+        return put_binding(out, words);
     }
+    let numbers = o.numbers;
+    let n = put_name(out, line);
+    put_each(out, n, first_numbers(&numbers, o.count))
 }
 
-fn bound(extra: usize, t: Terminals) -> Reply {
-    let drain = t.drain;
-    let source = t.source;
-    Reply::Bound(extra, drain, source)
-}
-
-fn after_bind(before: Mosfet1, answer: SetupAnswer) -> Outcome {
-    match answer {
-        SetupAnswer::Done(made) => {
-            kept(made, bound(setup::num_extra_nodes(made), made.terminals))
-        }
-        SetupAnswer::Refused(row) => kept(before, Reply::Refused(row)),
-    }
-}
-
-fn after_eval(before: Mosfet1, answer: Evaluation) -> Outcome {
-    match answer {
-        Evaluation::Done(e) => {
-            let a = e.answer;
-            kept(e.device, Reply::Evaluated(a))
-        }
-        Evaluation::Refused(row) => kept(before, Reply::Refused(row)),
-    }
-}
-
-fn after_commit(before: Mosfet1, answer: Commit) -> Outcome {
-    match answer {
-        Commit::Done(made) => kept(made, Reply::Committed),
-        Commit::Refused(row) => kept(before, Reply::Refused(row)),
-    }
-}
-
-// The call that a line asks for.
-pub fn act(device: Mosfet1, request: Request, x: &[f64]) -> Outcome {
-    match request {
-        Request::Scale(kelvin) => after_scale(device, setup::setup_model(device, Kelvin(kelvin))),
-        Request::Bind(drain, gate, source, bulk, first) => after_bind(
-            device,
-            setup::setup_instance(device, drain, gate, source, bulk, first as usize),
-        ),
-        Request::Eval(transient, k, n) => after_eval(
-            device,
-            model::calls::eval(device, first_numbers(x, n), transient, k),
-        ),
-        Request::Commit(n) => after_commit(
-            device,
-            model::calls::commit_timestep(device, first_numbers(x, n)),
-        ),
-        Request::Bad => kept(device, Reply::Bad),
-    }
-}
-
-fn noise_reply(noise: Noise) -> Reply {
-    match noise {
-        Noise::Quiet => Reply::Quiet,
-        Noise::Source(pos, neg, density) => Reply::Noise(pos, neg, density),
-        Noise::Refused(row) => Reply::Refused(row),
-    }
+// `scale`, `bind`, `eval` or `commit`
+pub fn change(session: Session, number: usize, line: &[u8], out: &mut [u8]) -> Session {
+    let mut x = [0.0; 4096];
+    let before = session.words;
+    let o = act(before, number, line, &mut x);
+    let after = o.words;
+    left(session, o.row, after, put_outcome(out, number, line, o))
 }
 
 // `noise KELVIN FREQ`
-pub fn noise(device: Mosfet1, line: &[u8]) -> Reply {
-    match read_two(word(line, 1), word(line, 2)) {
-        Two::Are(kelvin, freq) => {
-            noise_reply(small_signal::noise_sources(device, Kelvin(kelvin), freq))
-        }
-        Two::Not => Reply::Bad,
-    }
+pub fn noise(words: [f64; 113], line: &[u8], out: &mut [u8]) -> usize {
+    let t = number_of(word(line, 1));
+    let f = number_of(word(line, 2));
+    let o = record_small_signal::noise_sources(record_of(&words), t.x, f.x);
+    put_noise(out, row_if(both(t.good, f.good), o.refusal), o)
 }
 
 // `reactances`
-pub fn reactances(found: Reactances) -> Reply {
-    match found {
-        Reactances::Found(five) => Reply::Capacitors(five),
-        Reactances::Refused(row) => Reply::Refused(row),
-    }
+pub fn reactances(words: [f64; 113], out: &mut [u8]) -> usize {
+    put_reactances(
+        out,
+        record_small_signal::small_signal_reactances(record_of(&words)),
+    )
 }

@@ -1,49 +1,35 @@
 // Card and geometry by the words of a line.
 use crate::answers::put_places;
-use crate::command::Reader;
+use crate::command::place_of;
 use crate::key_lists;
-use crate::key_lists::are_lists;
-use crate::key_lists::filled;
 use crate::prefixes::at_most;
 use crate::prefixes::first_bytes;
 use crate::prefixes::first_numbers;
 use crate::prefixes::first_places;
+use crate::readings::are_lists;
+use crate::readings::both;
+use crate::readings::filled;
+use crate::readings::from_word;
+use crate::readings::row_if;
+use crate::readings::whole_of;
 use crate::replies::Session;
-use crate::replies::put_bad;
-use crate::replies::put_refused;
-use crate::script::number::Whole;
-use crate::script::number::read_whole;
+use crate::replies::left;
+use crate::replies::put_row;
 use crate::script::word::word;
 use crate::script::word::word_count;
-use crate::script::word::word_start;
-use card::CardAnswer;
-use device::Mosfet1;
-use geometry::GeometryAnswer;
+use record::DeviceRecord;
+use record_card::KeysOutcome;
+use record_words::record_of;
+use record_words::words_of;
 ghost use Prim.Native.Nat.{_≤_};
 
-// What a line's keys are handed to, how many places of each list they fill, and how many unknown ones there is room for. Words that are
-// no keys are handed to nothing.
+// Whether a line's words are keys, how many places of each list they fill, and how many unknown ones there is room for.
 struct Keys {
-    reader: Reader,
+    good: bool,
     used: usize,
     pairs: usize,
     count: usize,
     room: usize,
-}
-
-// What a call with keys answers.
-enum KeysReply {
-    Bad,
-    Refused(u8),
-    Card(usize),
-    Geometry(usize),
-}
-
-// The device that a call with keys leaves, whether it is present, and what the call answers.
-struct Keyed {
-    device: Mosfet1,
-    present: bool,
-    reply: KeysReply,
 }
 
 // There are 4,096 keys at most, so more room than that changes nothing.
@@ -57,33 +43,16 @@ fn room(capacity: u64) -> usize
     }
 }
 
-// The word that the keys start at: a card's polarity is a word before them.
-fn first_key(reader: Reader) -> usize {
-    match reader {
-        Reader::Card(_) => 2,
-        Reader::Geometry => 1,
-        Reader::Unnamed => 2,
-    }
-}
-
-// The line from its word number k on.
-fn from_word<'a>(line: &'a [u8], k: usize) -> &'a [u8] {
-    let start = word_start(line, k);
-    &line[start..]
-}
-
 // The raw form has four words, and the first is the room; the plain form has room for every place.
 fn room_of(raw: bool, words: &[u8]) -> usize {
     if !raw {
         return 4096;
     }
-    if word_count(words) != 4 {
-        return 65537;
+    let capacity = whole_of(word(words, 0));
+    if both(capacity.good, word_count(words) == 4) {
+        return room(capacity.n);
     }
-    match read_whole(word(words, 0)) {
-        Whole::Is(capacity) => room(capacity),
-        Whole::Not => 65537,
-    }
+    65537
 }
 
 // The key bytes: the raw form's second word, or the words' keys end to end.
@@ -111,29 +80,21 @@ fn values_of(raw: bool, words: &[u8], values: &mut [f64]) -> usize {
     filled(key_lists::key_values(words, 0, values))
 }
 
-fn reader_if(good: bool, reader: Reader) -> Reader {
-    if good { reader } else { Reader::Unnamed }
-}
-
-// The keys of a line in lent lists.
+// The keys of a line's words in lent lists.
 fn read_keys(
-    reader: Reader,
     raw: bool,
-    line: &[u8],
+    words: &[u8],
     bytes: &mut [u8],
     offsets: &mut [usize],
     lengths: &mut [usize],
     values: &mut [f64],
 ) -> Keys {
-    let words = from_word(line, first_key(reader));
     let room = room_of(raw, words);
     let used = bytes_of(raw, words, bytes);
     let pairs = pairs_of(raw, words, offsets, lengths);
     let count = values_of(raw, words, values);
-    let named = reader_if(are_lists(room, used), reader);
-    let read = reader_if(are_lists(pairs, count), named);
     Keys {
-        reader: read,
+        good: both(are_lists(room, used), are_lists(pairs, count)),
         used,
         pairs,
         count,
@@ -141,19 +102,39 @@ fn read_keys(
     }
 }
 
-fn card_answer(
-    is_pmos: bool,
+// A geometry by the number 2, a card by its polarity otherwise. A number that is none of these is refused by the number 100, as bad
+// words are.
+fn hand(
+    r: DeviceRecord,
+    polarity: u64,
+    bytes: &[u8],
+    offsets: &[usize],
+    lengths: &[usize],
+    values: &[f64],
+    unknown: &mut [usize],
+) -> KeysOutcome {
+    if polarity == 2 {
+        return record_card::set_instance_params(r, bytes, offsets, lengths, values, unknown);
+    }
+    record_card::from_model_params(r, polarity, bytes, offsets, lengths, values, unknown)
+}
+
+// The call on the first places of the lists.
+fn hand_first(
+    device: [f64; 113],
+    polarity: u64,
     keys: Keys,
     bytes: &[u8],
     offsets: &[usize],
     lengths: &[usize],
     values: &[f64],
     unknown: &mut [usize],
-) -> CardAnswer {
+) -> KeysOutcome {
     let start = 0;
     let end = at_most(keys.room, unknown.len());
-    card::from_model_params(
-        is_pmos,
+    hand(
+        record_of(&device),
+        polarity,
         first_bytes(bytes, keys.used),
         first_places(offsets, keys.pairs),
         first_places(lengths, keys.pairs),
@@ -162,125 +143,73 @@ fn card_answer(
     )
 }
 
-fn geometry_answer(
-    device: Mosfet1,
-    keys: Keys,
-    bytes: &[u8],
-    offsets: &[usize],
-    lengths: &[usize],
-    values: &[f64],
-    unknown: &mut [usize],
-) -> GeometryAnswer {
-    let start = 0;
-    let end = at_most(keys.room, unknown.len());
-    geometry::set_instance_params(
-        device,
-        first_bytes(bytes, keys.used),
-        first_places(offsets, keys.pairs),
-        first_places(lengths, keys.pairs),
-        first_numbers(values, keys.count),
-        &mut unknown[start..end],
-    )
-}
-
-fn leave(device: Mosfet1, present: bool, reply: KeysReply) -> Keyed {
-    Keyed {
-        device,
-        present,
-        reply,
+// The polarity of a card, 0 or 1, by its word, and 3 for a word that is none; a geometry's number is 2.
+fn polarity_of(geometry: bool, w: &[u8]) -> u64 {
+    if geometry {
+        return 2;
+    }
+    match place_of(b"n p", w) {
+        0 => 0,
+        1 => 1,
+        _ => 3,
     }
 }
 
-fn after_card(before: Mosfet1, present: bool, answer: CardAnswer) -> Keyed {
-    match answer {
-        CardAnswer::Done(device, count) => leave(device, true, KeysReply::Card(count)),
-        CardAnswer::Refused(row) => leave(before, present, KeysReply::Refused(row)),
+// The line from its keys on: a card's polarity is a word before them.
+fn keys_of<'a>(geometry: bool, line: &'a [u8]) -> &'a [u8] {
+    if geometry {
+        return from_word(line, 1);
     }
+    from_word(line, 2)
 }
 
 // A device that is not present accepts no geometry.
-fn after_geometry(before: Mosfet1, present: bool, answer: GeometryAnswer) -> Keyed {
-    match answer {
-        GeometryAnswer::Done(device, count) => {
-            if present {
-                return leave(device, present, KeysReply::Geometry(count));
-            }
-            leave(before, present, KeysReply::Refused(10))
-        }
-        GeometryAnswer::Refused(row) => leave(before, present, KeysReply::Refused(row)),
+fn row_of(polarity: u64, present: bool, row: u64) -> u64 {
+    if row == 0 && polarity == 2 && !present {
+        return 10;
     }
+    row
 }
 
-fn hand(
-    device: Mosfet1,
-    present: bool,
-    keys: Keys,
-    bytes: &[u8],
-    offsets: &[usize],
-    lengths: &[usize],
-    values: &[f64],
-    unknown: &mut [usize],
-) -> Keyed {
-    let reader = keys.reader;
-    match reader {
-        Reader::Card(is_pmos) => after_card(
-            device,
-            present,
-            card_answer(is_pmos, keys, bytes, offsets, lengths, values, unknown),
-        ),
-        Reader::Geometry => after_geometry(
-            device,
-            present,
-            geometry_answer(device, keys, bytes, offsets, lengths, values, unknown),
-        ),
-        Reader::Unnamed => leave(device, present, KeysReply::Bad),
+// A word and the places of the unknown keys, which `places` has first; or the refusal.
+fn put_keys(out: &mut [u8], geometry: bool, row: u64, places: &[usize], count: usize) -> usize {
+    if row != 0 {
+        return put_row(out, row);
     }
-}
-
-// A word and the places of the unknown keys.
-fn put_keys(out: &mut [u8], word: &[u8], places: &[usize], count: usize) -> usize {
-    let n = hex::put_text(out, 0, word);
+    let mut k = 0;
+    if geometry {
+        k = 1;
+    }
+    let n = hex::put_text(out, 0, word(b"card geometry", k));
     put_places(out, n, places, count)
 }
 
-// The reply's text from the start of out on; `places` has those of the unknown keys first.
-fn put_keyed(out: &mut [u8], reply: KeysReply, places: &[usize]) -> usize {
-    match reply {
-        KeysReply::Bad => put_bad(out),
-        KeysReply::Refused(row) => put_refused(out, row),
-        KeysReply::Card(count) => put_keys(out, b"card", places, count),
-        KeysReply::Geometry(count) => put_keys(out, b"geometry", places, count),
-    }
+// Whether a command's number is that of a raw form, which follows the plain one.
+fn is_raw(number: usize) -> bool {
+    number % 2 == 1
 }
 
-fn after(session: Session, k: Keyed, end: usize) -> Session {
-    let device = k.device;
-    let mut next = session;
-    next.device = device;
-    next.present = k.present;
-    next.end = end;
-    next
-}
-
-// A call with keys, and the text of its answer.
-pub fn call(session: Session, reader: Reader, raw: bool, line: &[u8], out: &mut [u8]) -> Session {
+// A call with keys, by its command's number, and the text of its answer.
+pub fn call(session: Session, number: usize, line: &[u8], out: &mut [u8]) -> Session {
+    let geometry = number > 1;
     let mut bytes = [0u8; 65536];
     let mut offsets = [0usize; 4096];
     let mut lengths = [0usize; 4096];
     let mut values = [0.0; 4096];
     let mut unknown = [0usize; 4096];
+    let polarity = polarity_of(geometry, word(line, 1));
     let keys = read_keys(
-        reader,
-        raw,
-        line,
+        is_raw(number),
+        keys_of(geometry, line),
         &mut bytes,
         &mut offsets,
         &mut lengths,
         &mut values,
     );
-    let k = hand(
-        session.device,
-        session.present,
+    let device = session.words;
+    let o = hand_first(
+        device,
+        polarity,
         keys,
         &bytes,
         &offsets,
@@ -288,7 +217,7 @@ pub fn call(session: Session, reader: Reader, raw: bool, line: &[u8], out: &mut 
         &values,
         &mut unknown,
     );
-    let reply = k.reply;
-    let end = put_keyed(out, reply, &unknown);
-    after(session, k, end)
+    let row = row_if(keys.good, row_of(polarity, session.present, o.refusal));
+    let end = put_keys(out, geometry, row, &unknown, o.unknown);
+    left(session, row, words_of(o.device), end)
 }

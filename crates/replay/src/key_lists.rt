@@ -87,17 +87,3 @@ pub fn key_bytes(line: &[u8], k: usize, bytes: &mut [u8]) -> usize {
     }
     used
 }
-
-// How many places a list fills; 65,537, which no list of a line does, for a word that is none. Lists are then read one after another
-// and tested together.
-pub fn filled(count: Count) -> usize {
-    match count {
-        Count::Is(n) => n,
-        Count::Not => 65537,
-    }
-}
-
-// Whether both are lists.
-pub fn are_lists(a: usize, b: usize) -> bool {
-    a < 65537 && b < 65537
-}

@@ -1,30 +1,27 @@
-// The extra nodes of the present device and the layout of its matrix, by the words of a line. As for a load, a line is read before the
-// device is handed on.
+// The extra nodes of the present device and the layout of its matrix, by the words of a line.
 use crate::answers::put_columns;
 use crate::answers::put_next_whole;
 use crate::answers::put_wholes;
-use crate::key_lists::are_lists;
-use crate::key_lists::filled;
 use crate::prefixes::at_most;
 use crate::prefixes::first_columns;
 use crate::prefixes::first_places;
-use crate::replies::put_bad;
-use crate::replies::put_refused;
+use crate::readings::are_lists;
+use crate::readings::both;
+use crate::readings::filled;
+use crate::readings::row_if;
+use crate::replies::put_row;
 use crate::script::word::word;
-use cell_pattern::Needed;
-use device::Mosfet1;
-use matrix_layout::ExtraNodesAnswer;
-use matrix_layout::LayoutAnswer;
+use record_layout::LayoutOutcome;
+use record_words::record_of;
 
 // `extra`
-pub fn put_extra(out: &mut [u8], answer: ExtraNodesAnswer) -> usize {
-    match answer {
-        ExtraNodesAnswer::Nodes(count) => {
-            let n = hex::put_text(out, 0, b"extra");
-            put_next_whole(out, n, count as u64)
-        }
-        ExtraNodesAnswer::Refused(row) => put_refused(out, row),
+pub fn extra(words: [f64; 113], out: &mut [u8]) -> usize {
+    let o = record_layout::extra_nodes(record_of(&words));
+    if o.refusal != 0 {
+        return put_row(out, o.refusal);
     }
+    let n = hex::put_text(out, 0, b"extra");
+    put_next_whole(out, n, o.count as u64)
 }
 
 // The words of a layout: whether they are three lists, and how many places each of them lends.
@@ -44,9 +41,8 @@ fn read_lent(
     let a = filled(crate::script_lists::columns(word(line, 1), columns));
     let b = filled(crate::script_lists::wholes(word(line, 2), offsets));
     let c = filled(crate::script_lists::wholes(word(line, 3), lengths));
-    let good = are_lists(a, b) && are_lists(b, c);
     LentWords {
-        good,
+        good: both(are_lists(a, b), are_lists(b, c)),
         cells: a,
         offsets: b,
         lengths: c,
@@ -55,70 +51,56 @@ fn read_lent(
 
 // Lays the device's cells out in the first places of the three slices.
 fn lay_out_first(
-    device: Mosfet1,
+    device: [f64; 113],
     w: LentWords,
     columns: &mut [u32],
     offsets: &mut [usize],
     lengths: &mut [usize],
-) -> LayoutAnswer {
+) -> LayoutOutcome {
     let start = 0;
     let a = at_most(w.cells, columns.len());
     let b = at_most(w.offsets, offsets.len());
     let c = at_most(w.lengths, lengths.len());
-    matrix_layout::matrix_layout(
-        device,
+    record_layout::matrix_layout(
+        record_of(&device),
         &mut columns[start..a],
         &mut offsets[start..b],
         &mut lengths[start..c],
     )
 }
 
-// The needed lengths, then the three slices whole.
-fn put_layout(
-    out: &mut [u8],
-    needed: Needed,
-    columns: &[u32],
-    offsets: &[usize],
-    lengths: &[usize],
-) -> usize {
+// The needed lengths.
+fn put_needed(out: &mut [u8], o: LayoutOutcome) -> usize {
     let a = hex::put_text(out, 0, b"cells");
-    let b = put_next_whole(out, a, needed.columns as u64);
-    let c = put_next_whole(out, b, needed.rows as u64);
-    let d = put_columns(out, c, columns);
-    let e = put_wholes(out, d, offsets);
-    put_wholes(out, e, lengths)
+    let b = put_next_whole(out, a, o.columns as u64);
+    put_next_whole(out, b, o.rows as u64)
 }
 
-// Words that are not three lists are bad, whatever the layout answered, which was then made for nothing (as in `load_calls::put_load`).
+// The needed lengths, then the three slices whole; or the refusal.
 fn put_cells(
     out: &mut [u8],
     w: LentWords,
-    answer: LayoutAnswer,
+    o: LayoutOutcome,
     columns: &[u32],
     offsets: &[usize],
     lengths: &[usize],
 ) -> usize {
-    if !w.good {
-        return put_bad(out);
+    let row = row_if(w.good, o.refusal);
+    if row != 0 {
+        return put_row(out, row);
     }
-    match answer {
-        LayoutAnswer::Lengths(needed) => put_layout(
-            out,
-            needed,
-            first_columns(columns, w.cells),
-            first_places(offsets, w.offsets),
-            first_places(lengths, w.lengths),
-        ),
-        LayoutAnswer::Refused(row) => put_refused(out, row),
-    }
+    let n = put_needed(out, o);
+    let d = put_columns(out, n, first_columns(columns, w.cells));
+    let e = put_wholes(out, d, first_places(offsets, w.offsets));
+    put_wholes(out, e, first_places(lengths, w.lengths))
 }
 
 // `cells COLUMNS OFFSETS LENGTHS`
-pub fn cells(device: Mosfet1, line: &[u8], out: &mut [u8]) -> usize {
+pub fn cells(device: [f64; 113], line: &[u8], out: &mut [u8]) -> usize {
     let mut columns = [0u32; 4096];
     let mut offsets = [0usize; 4096];
     let mut lengths = [0usize; 4096];
     let w = read_lent(line, &mut columns, &mut offsets, &mut lengths);
-    let answer = lay_out_first(device, w, &mut columns, &mut offsets, &mut lengths);
-    put_cells(out, w, answer, &columns, &offsets, &lengths)
+    let o = lay_out_first(device, w, &mut columns, &mut offsets, &mut lengths);
+    put_cells(out, w, o, &columns, &offsets, &lengths)
 }

@@ -1,60 +1,65 @@
-// Loads by the words of a line, and the lookup of a load's cells. A line is read before the device is handed on: what the words are does
-// not hang on it.
-use crate::key_lists::are_lists;
-use crate::key_lists::filled;
+// Loads by the words of a line, and the lookup of a load's cells.
+use crate::device_words::device_of;
 use crate::prefixes::at_most;
+use crate::prefixes::first_bytes;
 use crate::prefixes::first_columns;
 use crate::prefixes::first_numbers;
 use crate::prefixes::first_places;
+use crate::readings::are_lists;
+use crate::readings::both;
+use crate::readings::filled;
+use crate::readings::from_word;
+use crate::readings::number_of;
+use crate::readings::row_if;
 use crate::replies::Session;
-use crate::replies::ended;
-use crate::replies::put_bad;
-use crate::replies::put_refused;
-use crate::script::number::Number;
-use crate::script::number::read_number;
+use crate::replies::put_done;
+use crate::replies::put_name;
+use crate::replies::put_row;
 use crate::script::word::same;
-use crate::script::word::until;
 use crate::script::word::word;
-use device::Mosfet1;
 use loading::LoadAnswer;
-use loading::LoadKind;
+use record_words::record_of;
 use resolve::Resolution;
 
-// Direct current, transient with its alpha, or a word that is neither.
-enum Kind {
-    Is(LoadKind),
-    Not,
+// Direct current, 0, or transient, 1, with its alpha; or a word that is neither.
+struct Kind {
+    good: bool,
+    transient: u64,
+    alpha: f64,
+}
+
+fn kind_by(dc: bool, tran: bool, alpha: f64) -> Kind {
+    if dc {
+        return Kind {
+            good: true,
+            transient: 0,
+            alpha: 0.0,
+        };
+    }
+    Kind {
+        good: tran,
+        transient: 1,
+        alpha,
+    }
 }
 
 // `dc` or `tran:ALPHA`
 fn kind_of(w: &[u8]) -> Kind {
-    if same(w, b"dc") {
-        return Kind::Is(LoadKind::DirectCurrent);
-    }
-    let start = 0;
-    let end = until(w, start, b':');
-    if w.len() <= end {
-        return Kind::Not;
-    }
-    if !same(&w[start..end], b"tran") {
-        return Kind::Not;
-    }
-    let after = end + 1;
-    match read_number(&w[after..]) {
-        Number::Is(alpha) => Kind::Is(LoadKind::Transient(alpha)),
-        Number::Not => Kind::Not,
-    }
+    let after = at_most(5, w.len());
+    let alpha = number_of(&w[after..]);
+    let tran = same(first_bytes(w, 5), b"tran:");
+    kind_by(same(w, b"dc"), both(tran, alpha.good), alpha.x)
 }
 
 // The words of a pattern: whether they are one, and how many columns and rows they fill.
-struct PatternWords {
-    good: bool,
-    cells: usize,
-    rows: usize,
+pub struct PatternWords {
+    pub good: bool,
+    pub cells: usize,
+    pub rows: usize,
 }
 
 // A pattern by two words.
-fn read_pattern(
+pub fn read_pattern(
     first: &[u8],
     second: &[u8],
     columns: &mut [u32],
@@ -68,69 +73,48 @@ fn read_pattern(
 }
 
 // The words of a load: whether they are one, its kind, and how many numbers the right-hand side and the values have.
-struct LoadWords {
-    good: bool,
-    kind: LoadKind,
-    numbers: usize,
-    count: usize,
+pub struct LoadWords {
+    pub good: bool,
+    pub transient: u64,
+    pub alpha: f64,
+    pub numbers: usize,
+    pub count: usize,
 }
 
-// The kind and the right-hand side by the words 1 and 2 of a line, the values by the word k.
-fn read_load(line: &[u8], k: usize, rhs: &mut [f64], values: &mut [f64]) -> LoadWords {
-    let kind = kind_of(word(line, 1));
-    let numbers = filled(crate::script_lists::numbers(word(line, 2), rhs));
-    let count = filled(crate::script_lists::numbers(word(line, k), values));
-    load_words(kind, are_lists(numbers, count), numbers, count)
-}
-
-fn load_words(kind: Kind, lists: bool, numbers: usize, count: usize) -> LoadWords {
-    match kind {
-        Kind::Is(kind) => LoadWords {
-            good: lists,
-            kind,
-            numbers,
-            count,
-        },
-        Kind::Not => LoadWords {
-            good: false,
-            kind: LoadKind::DirectCurrent,
-            numbers,
-            count,
-        },
+// The kind and the right-hand side by the first two words, the values by the word k.
+pub fn read_load(words: &[u8], k: usize, rhs: &mut [f64], values: &mut [f64]) -> LoadWords {
+    let kind = kind_of(word(words, 0));
+    let numbers = filled(crate::script_lists::numbers(word(words, 1), rhs));
+    let count = filled(crate::script_lists::numbers(word(words, k), values));
+    LoadWords {
+        good: both(kind.good, are_lists(numbers, count)),
+        transient: kind.transient,
+        alpha: kind.alpha,
+        numbers,
+        count,
     }
 }
 
-fn both(a: bool, b: bool) -> bool {
-    a && b
-}
-
-// The command's name and both slices whole, or the refusal, from the start of out on. A load that is not good was made for nothing,
-// into lists that no word wrote or by cells that are not kept: it is bad, whatever it answered. So the functions that hand the device on need no branch.
-fn put_load(
+// The command and both slices whole, or the refusal, from the start of out on.
+pub fn put_load(
     out: &mut [u8],
-    name: &[u8],
-    good: bool,
+    line: &[u8],
+    row: u64,
     w: LoadWords,
-    answer: LoadAnswer,
     rhs: &[f64],
     values: &[f64],
 ) -> usize {
-    if !good {
-        return put_bad(out);
+    if row != 0 {
+        return put_row(out, row);
     }
-    match answer {
-        LoadAnswer::Done => {
-            let n = hex::put_text(out, 0, name);
-            let m = crate::answers::put_list(out, n, first_numbers(rhs, w.numbers));
-            crate::answers::put_list(out, m, first_numbers(values, w.count))
-        }
-        LoadAnswer::Refused(row) => put_refused(out, row),
-    }
+    let n = put_name(out, line);
+    let m = crate::answers::put_list(out, n, first_numbers(rhs, w.numbers));
+    crate::answers::put_list(out, m, first_numbers(values, w.count))
 }
 
 // Loads into the first places of both slices.
 fn load_first(
-    device: Mosfet1,
+    device: [f64; 113],
     w: LoadWords,
     p: PatternWords,
     rhs: &mut [f64],
@@ -138,14 +122,14 @@ fn load_first(
     columns: &[u32],
     offsets: &[usize],
     lengths: &[usize],
-) -> LoadAnswer {
+) -> u64 {
     let start = 0;
-    let kind = w.kind;
     let numbers = at_most(w.numbers, rhs.len());
     let count = at_most(w.count, values.len());
-    loading::load(
-        device,
-        kind,
+    record_loading::load(
+        record_of(&device),
+        w.transient,
+        w.alpha,
         &mut rhs[start..numbers],
         &mut values[start..count],
         first_columns(columns, p.cells),
@@ -155,13 +139,13 @@ fn load_first(
 }
 
 // `load dc|tran:ALPHA RHS COLUMNS ROWS VALUES`
-pub fn load(device: Mosfet1, line: &[u8], out: &mut [u8]) -> usize {
+pub fn load(device: [f64; 113], line: &[u8], out: &mut [u8]) -> usize {
     let mut rhs = [0.0; 4096];
     let mut columns = [0u32; 4096];
     let mut offsets = [0usize; 4096];
     let mut lengths = [0usize; 4096];
     let mut values = [0.0; 4096];
-    let w = read_load(line, 5, &mut rhs, &mut values);
+    let w = read_load(from_word(line, 1), 4, &mut rhs, &mut values);
     let p = read_pattern(
         word(line, 3),
         word(line, 4),
@@ -169,7 +153,7 @@ pub fn load(device: Mosfet1, line: &[u8], out: &mut [u8]) -> usize {
         &mut offsets,
         &mut lengths,
     );
-    let answer = load_first(
+    let row = load_first(
         device,
         w,
         p,
@@ -179,15 +163,21 @@ pub fn load(device: Mosfet1, line: &[u8], out: &mut [u8]) -> usize {
         &offsets,
         &lengths,
     );
-    put_load(out, b"load", both(w.good, p.good), w, answer, &rhs, &values)
+    put_load(
+        out,
+        line,
+        row_if(both(w.good, p.good), row),
+        w,
+        &rhs,
+        &values,
+    )
 }
 
 // The cells that were looked up are kept. A refusal keeps those from before.
-fn keep(session: Session, found: Resolution, end: usize) -> Session {
+fn keep(session: Session, row: u64, cells: [usize; 37], end: usize) -> Session {
     let mut next = session;
     next.end = end;
-    if found.row == 0 {
-        let cells = found.cells;
+    if row == 0 {
         next.cells = cells;
         next.resolved = true;
     }
@@ -195,25 +185,18 @@ fn keep(session: Session, found: Resolution, end: usize) -> Session {
 }
 
 fn look_up(
-    device: Mosfet1,
+    device: [f64; 113],
     p: PatternWords,
     columns: &[u32],
     offsets: &[usize],
     lengths: &[usize],
 ) -> Resolution {
     resolve::resolve(
-        device,
+        device_of(&device),
         first_columns(columns, p.cells),
         first_places(offsets, p.rows),
         first_places(lengths, p.rows),
     )
-}
-
-fn put_resolved(out: &mut [u8], row: u8) -> usize {
-    if row == 0 {
-        return hex::put_text(out, 0, b"resolve");
-    }
-    put_refused(out, row)
 }
 
 // `resolve COLUMNS ROWS`
@@ -228,47 +211,53 @@ pub fn resolve(session: Session, line: &[u8], out: &mut [u8]) -> Session {
         &mut offsets,
         &mut lengths,
     );
-    if !p.good {
-        return ended(session, put_bad(out));
+    let device = session.words;
+    let found = look_up(device, p, &columns, &offsets, &lengths);
+    let cells = found.cells;
+    let row = row_if(p.good, record::wide(found.row));
+    keep(session, row, cells, put_done(out, line, row))
+}
+
+fn row_of(answer: LoadAnswer) -> u64 {
+    match answer {
+        LoadAnswer::Done => 0,
+        LoadAnswer::Refused(row) => record::wide(row),
     }
-    let found = look_up(session.device, p, &columns, &offsets, &lengths);
-    keep(session, found, put_resolved(out, found.row))
 }
 
 // Loads by the kept cells into the first places of both slices.
 fn load_kept(
-    device: Mosfet1,
+    device: [f64; 113],
     w: LoadWords,
     cells: &[usize; 37],
     rhs: &mut [f64],
     values: &mut [f64],
-) -> LoadAnswer {
+) -> u64 {
     let start = 0;
-    let kind = w.kind;
     let numbers = at_most(w.numbers, rhs.len());
     let count = at_most(w.count, values.len());
-    load_resolved::load_resolved(
-        device,
-        kind,
+    row_of(load_resolved::load_resolved(
+        device_of(&device),
+        record_loading::kind_from(w.transient, w.alpha),
         cells,
         &mut rhs[start..numbers],
         &mut values[start..count],
-    )
+    ))
 }
 
 // `loadresolved dc|tran:ALPHA RHS VALUES`; bad where no cells are kept
 pub fn load_resolved(session: Session, line: &[u8], out: &mut [u8]) -> usize {
     let mut rhs = [0.0; 4096];
     let mut values = [0.0; 4096];
+    let device = session.words;
     let cells = session.cells;
-    let w = read_load(line, 3, &mut rhs, &mut values);
-    let answer = load_kept(session.device, w, &cells, &mut rhs, &mut values);
+    let w = read_load(from_word(line, 1), 2, &mut rhs, &mut values);
+    let row = load_kept(device, w, &cells, &mut rhs, &mut values);
     put_load(
         out,
-        b"loadresolved",
-        both(w.good, session.resolved),
+        line,
+        row_if(both(w.good, session.resolved), row),
         w,
-        answer,
         &rhs,
         &values,
     )

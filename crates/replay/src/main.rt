@@ -1,15 +1,18 @@
 // Runs a script of calls: reads a command a line and writes an answer line for each, beside which the Rust's answers can be held.
 mod answers;
+mod bridge_calls;
 mod command;
 mod commands;
 mod device_calls;
 mod device_text;
+mod device_words;
 mod function_calls;
 mod key_calls;
 mod key_lists;
 mod layout_calls;
 mod load_calls;
 mod prefixes;
+mod readings;
 mod replies;
 mod script;
 mod script_lists;
@@ -17,7 +20,8 @@ mod script_lists;
 use crate::prefixes::first_bytes;
 use crate::replies::Session;
 use crate::script::word::until;
-use card::CardAnswer;
+use record_words::record_of;
+use record_words::words_of;
 
 // Where the reading is: at the place `at` of the n bytes that the last read brought. The last line has `len` bytes, and with it the
 // input is over or not. The reading knows nothing of the session: functions that hand the device on are dear to check.
@@ -91,15 +95,23 @@ fn write_line(out: &mut [u8], n: usize) {
 }
 
 // The line's first len bytes are answered.
-fn answer_line(session: Session, line: &[u8; 65537], len: usize) -> Session {
+fn answer_line(
+    session: Session,
+    bank: &mut [[f64; 113]; 65],
+    line: &[u8; 65537],
+    len: usize,
+) -> Session {
     let mut out = [0u8; 163840];
-    let next = commands::answer(session, first_bytes(line, len), &mut out);
+    let next = commands::answer(session, bank, first_bytes(line, len), &mut out);
     write_line(&mut out, next.end);
     next
 }
 
-// The turns count down as in `next_line`.
+// The bank of devices is held beside the session: of 64 places, and one more that is never written. The turns count down as in
+// `next_line`.
 fn run(first: Session) {
+    let words = first.words;
+    let mut bank = [words; 65];
     let mut buf = [0u8; 65536];
     let mut line = [0u8; 65537];
     let mut next = first;
@@ -112,14 +124,18 @@ fn run(first: Session) {
     let mut turns = u64::MAX;
     while turns > 0 && !r.over {
         r = next_line(r, &mut buf, &mut line);
-        next = answer_line(next, &line, r.len);
+        next = answer_line(next, &mut bank, &line, r.len);
+        if next.reset {
+            next = first;
+            bank = [words; 65];
+        }
         turns -= 1;
     }
 }
 
+// The first device is that of a card with no keys, which is never refused; the record before a card is not looked at.
 fn main() {
-    match card::from_model_params(false, &[], &[], &[], &[], &mut []) {
-        CardAnswer::Done(device, _) => run(replies::first_session(device)),
-        CardAnswer::Refused(_) => {}
-    }
+    let nothing = [0.0; 113];
+    let o = record_card::from_model_params(record_of(&nothing), 0, &[], &[], &[], &[], &mut []);
+    run(replies::first_session(words_of(o.device)));
 }

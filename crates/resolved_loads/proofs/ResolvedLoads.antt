@@ -81,7 +81,8 @@ five z false false false true f x y h same = rw (h, same refl)
 
 module _ (made d : Mosfet1) (k : LoadKind) (P : Pattern) (w : List ℕ) (rhs values : List Float)
     (answered : resolveOf made P ≡ done w) (nodes : d .terminals ≡ made .terminals) (room : length (P .columns) ≤ missingNumber) where
-  rows : (wellFormed (P .columns) (P .offsets) (P .lengths) (length (P .columns)) ≡ true) × (w ≡ resolvedCells (made .terminals) P)
+  -- an accepted lookup: the pattern is well formed, and the numbers are its cells' places
+  pub rows : (wellFormed (P .columns) (P .offsets) (P .lengths) (length (P .columns)) ≡ true) × (w ≡ resolvedCells (made .terminals) P)
   unfolding resolveOf
   rows = let p = passed (resolveRows made P) answered in (not-not _ (p .0 .1 .1 .0), p .1)
 
@@ -96,14 +97,16 @@ module _ (made d : Mosfet1) (k : LoadKind) (P : Pattern) (w : List ℕ) (rhs val
   same = subst (λ (u : List ℕ). Same P (length (P .columns)) (matrixContributions (d .terminals) (jacValuesOf d) (branchesOf d k)) (storedPlaces u (branchesOf d k))) (sym is)
       (whole P (length (P .columns)) within (d .terminals) d (branchesOf d k))
 
-  held : eqb (length values) (length (P .columns)) ≡ true → cellsHeld w d k (length values) ≡ allThere P (jacobianContributions d k)
+  -- row 13 of the load by the cells, where row 12 does not apply
+  pub held : eqb (length values) (length (P .columns)) ≡ true → cellsHeld w d k (length values) ≡ allThere P (jacobianContributions d k)
   unfolding cellsHeld
   held e =
       ap (λ (m : ℕ). madeFor w (d .terminals) && allStored m (jacobianContributions d k) (storedPlaces w (branchesOf d k))) (eqb-true (length values) (length (P .columns)) e)
       ∙ ap (λ (u : List ℕ). madeFor u (d .terminals) && allStored (length (P .columns)) (jacobianContributions d k) (storedPlaces w (branchesOf d k))) is
       ∙ rw (made-for-itself (d .terminals) P) (same .tested)
 
-  sizes : (getD w 6 0 ≡ length (P .offsets)) × (getD w 7 0 ≡ length (P .columns))
+  -- the stored row and value counts
+  pub sizes : (getD w 6 0 ≡ length (P .offsets)) × (getD w 7 0 ≡ length (P .columns))
   unfolding resolvedCells nodeNumbers
   sizes = (ap (λ (u : List ℕ). getD u 6 0) is, ap (λ (u : List ℕ). getD u 7 0) is)
 

@@ -14,8 +14,8 @@ use Rattle.device_bank.specs.Bank.{devicesOf, bankRow}
 use Rattle.bridge.proofs.Runs.{RunInside, run-inside}
 use Rattle.bridge.specs.Bridge.{devicesRows}
 use Rattle.bridge.specs.Runs.{blockRefused}
-use Rattle.mivtolgya_bridge.specs.Steps.{blockNumber}
-use Rattle.mivtolgya_bridge.proofs.Numbers.{unknown-tag, unknown-kind, row-14, row-passed}
+use Rattle.bridge_calls.specs.Steps.{blockNumber}
+use Rattle.bridge_calls.proofs.Numbers.{unknown-tag, unknown-kind, row-14, row-passed}
 use borrow.Author.Needs.{needs}
 use Rattle.mivtolgya_bridge.proofs.block_number.Statement.{statement}
 use Rattle.mivtolgya_bridge.proofs.block_number.Tie as tie

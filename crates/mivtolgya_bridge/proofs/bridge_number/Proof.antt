@@ -11,8 +11,8 @@ use Rattle.record_loading.specs.Load.{kindFrom}
 use Rattle.device_bank.specs.Bank.{devicesOf, bankRow}
 use Rattle.bridge.specs.Bridge.{devicesRows}
 use Rattle.bridge.specs.Runs.{bridgeRefused}
-use Rattle.mivtolgya_bridge.specs.Steps.{bridgeNumber}
-use Rattle.mivtolgya_bridge.proofs.Numbers.{unknown-tag, unknown-kind, row-14, row-passed}
+use Rattle.bridge_calls.specs.Steps.{bridgeNumber}
+use Rattle.bridge_calls.proofs.Numbers.{unknown-tag, unknown-kind, row-14, row-passed}
 use borrow.Author.Needs.{needs}
 use Rattle.mivtolgya_bridge.proofs.bridge_number.Statement.{statement}
 use Rattle.mivtolgya_bridge.proofs.bridge_number.Tie as tie

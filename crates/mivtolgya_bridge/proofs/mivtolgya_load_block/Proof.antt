@@ -7,7 +7,7 @@ use denote.Ref.{now}
 use borrow.Rule.Slice.PartMut.{putMid}
 use Rattle.assembly.specs.Assembly.{Pattern}
 use Rattle.bridge.proofs.Runs.{RunInside}
-use Rattle.mivtolgya_bridge.proofs.Loads.{count-of, length-part, block-refused, block-run, block-done, block-slices, block-rows}
+use Rattle.bridge_calls.proofs.Loads.{count-of, length-part, block-refused, block-run, block-done, block-slices, block-rows}
 use borrow.Author.Needs.{needs}
 use Rattle.mivtolgya_bridge.proofs.mivtolgya_load_block.Statement.{statement}
 use Rattle.mivtolgya_bridge.proofs.mivtolgya_load_block.Tie as tie

@@ -3,7 +3,7 @@ use mathlib.Core.Path.{ap, _∙_}
 use lib.ListN.{length}
 use denote.Ref.{now}
 use Rattle.assembly.specs.Assembly.{Pattern}
-use Rattle.mivtolgya_bridge.proofs.Loads.{length-zeroed, bridge-refused, bridge-done, bridge-slices, bridge-rows}
+use Rattle.bridge_calls.proofs.Loads.{length-zeroed, bridge-refused, bridge-done, bridge-slices, bridge-rows}
 use borrow.Author.Needs.{needs}
 use Rattle.mivtolgya_bridge.proofs.mivtolgya_load_bridge.Statement.{statement}
 use Rattle.mivtolgya_bridge.proofs.mivtolgya_load_bridge.Tie as tie

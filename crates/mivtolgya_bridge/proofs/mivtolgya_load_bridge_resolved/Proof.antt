@@ -2,8 +2,8 @@
 use mathlib.Core.Path.{ap, _∙_}
 use lib.ListN.{length}
 use denote.Ref.{now}
-use Rattle.mivtolgya_bridge.proofs.Loads.{length-zeroed}
-use Rattle.mivtolgya_bridge.proofs.Resolved.{resolved-refused, resolved-rows, resolved-done}
+use Rattle.bridge_calls.proofs.Loads.{length-zeroed}
+use Rattle.bridge_calls.proofs.Resolved.{resolved-refused, resolved-rows, resolved-done}
 use Rattle.bridge.specs.Bridge.{zeroed}
 use borrow.Author.Needs.{needs}
 use Rattle.mivtolgya_bridge.proofs.mivtolgya_load_bridge_resolved.Statement.{statement}

@@ -4,9 +4,9 @@ use native.Mathlib.Omega.{arith}
 use lib.ListN.{length}
 use denote.Ref.{now}
 use borrow.Author.Tests.{not-true, not-false, le-leb}
-use Rattle.mivtolgya_bridge.specs.Steps.{resolvedBridgeNumber}
-use Rattle.mivtolgya_bridge.proofs.Numbers.{unknown-tag, unknown-kind}
-use Rattle.mivtolgya_bridge.proofs.Resolved.{resolved-14, resolved-row}
+use Rattle.bridge_calls.specs.Steps.{resolvedBridgeNumber}
+use Rattle.bridge_calls.proofs.Numbers.{unknown-tag, unknown-kind}
+use Rattle.bridge_calls.proofs.Resolved.{resolved-14, resolved-row}
 use borrow.Author.Needs.{needs}
 use Rattle.mivtolgya_bridge.proofs.resolved_number.Statement.{statement}
 use Rattle.mivtolgya_bridge.proofs.resolved_number.Tie as tie

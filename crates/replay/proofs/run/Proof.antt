@@ -4,10 +4,10 @@ use Rattle.replay.proofs.run.Statement.{statement}
 use Rattle.replay.proofs.run.Tie as tie
 
 abbrev Inv-loop : tie.InvT-loop
-Inv-loop buf₀ line₀ next₀ r₀ turns₀ buf line next r turns = Unit {0}
+Inv-loop first words bank₀ buf₀ line₀ next₀ r₀ turns₀ bank buf line next r turns = Unit {0}
 
 abbrev μ-loop : tie.MeasureT-loop
-μ-loop buf₀ line₀ next₀ r₀ turns₀ buf line next r turns = turns
+μ-loop first words bank₀ buf₀ line₀ next₀ r₀ turns₀ bank buf line next r turns = turns
 
 loop-holds : tie.Need-loop-holds Inv-loop μ-loop
 loop-holds c = search needs

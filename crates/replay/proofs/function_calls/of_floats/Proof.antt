@@ -6,10 +6,22 @@ use Rattle.replay.proofs.function_calls.of_floats.Statement.{statement}
 use Rattle.replay.proofs.function_calls.of_floats.Tie as tie
 
 abbrev Inv-loop : tie.InvT-loop
-Inv-loop line count x₀ i₀ x i = (i ≤ count) × (length x ≡ 8)
+Inv-loop line count k x₀ i₀ x i = (i ≤ count) × (length x ≡ 8)
 
 abbrev μ-loop : tie.MeasureT-loop
-μ-loop line count x₀ i₀ x i = count - i
+μ-loop line count k x₀ i₀ x i = count - i
+
+word-requires : tie.Need-word-requires Inv-loop μ-loop
+word-requires c κs = search needs
+
+function-of-requires : tie.Need-function-of-requires Inv-loop μ-loop
+function-of-requires c κs = search needs
+
+arity-requires : tie.Need-arity-requires Inv-loop μ-loop
+arity-requires c κs = search needs
+
+none-requires : tie.Need-none-requires Inv-loop μ-loop
+none-requires c κs = search needs
 
 returns : tie.Need-returns Inv-loop μ-loop
 returns c = search needs
@@ -20,8 +32,8 @@ loop-holds c = search needs
 add-word : tie.Need-add-word Inv-loop μ-loop
 add-word c = search needs
 
-word-requires : tie.Need-word-requires Inv-loop μ-loop
-word-requires c κs = search needs
+word-requires-2 : tie.Need-word-requires-2 Inv-loop μ-loop
+word-requires-2 c κs = search needs
 
 read-number-requires : tie.Need-read-number-requires Inv-loop μ-loop
 read-number-requires c κs = search needs
@@ -31,6 +43,9 @@ enum-known-v c = search needs
 
 enum-told : tie.Need-enum-told Inv-loop μ-loop
 enum-told c = search needs
+
+none-requires-2 : tie.Need-none-requires-2 Inv-loop μ-loop
+none-requires-2 c κs = search needs
 
 returns-2 : tie.Need-returns-2 Inv-loop μ-loop
 returns-2 c = search needs
@@ -50,9 +65,6 @@ loop-less c = search needs
 loop-again : tie.Need-loop-again Inv-loop μ-loop
 loop-again c = search needs
 
-word-requires-2 : tie.Need-word-requires-2 Inv-loop μ-loop
-word-requires-2 c κs = search needs
-
 of-arguments-requires : tie.Need-of-arguments-requires Inv-loop μ-loop
 of-arguments-requires c κs = search needs
 
@@ -65,19 +77,23 @@ of-floats-spec =
     (tie.spec
     Inv-loop
     μ-loop
+    word-requires
+    function-of-requires
+    arity-requires
+    none-requires
     returns
     loop-holds
     add-word
-    word-requires
+    word-requires-2
     read-number-requires
     enum-known-v
     enum-told
+    none-requires-2
     returns-2
     mul-x
     array-write-x
     add-i
     loop-less
     loop-again
-    word-requires-2
     of-arguments-requires
     returns-3)

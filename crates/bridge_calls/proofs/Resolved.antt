@@ -14,11 +14,11 @@ use Rattle.bridge.specs.Runs.{bridgeRefused}
 use Rattle.bridge.specs.Bridge.{Slices, zeroed}
 use Rattle.bank_resolved.specs.Resolved.{celledOf, celledRows, loadCelledInOrder, bridgeCelledRows, bridgeCelledOf, bridgeCelledSlices}
 use Rattle.bank_resolved.specs.Steps.{celledRow}
-use Rattle.mivtolgya_bridge.specs.Calls.{goodLoads, resolvedBridgeCall, resolvedBridgeSide, resolvedBridgeMatrix}
-use Rattle.mivtolgya_bridge.specs.Steps.{resolvedBridgeNumber}
-use Rattle.mivtolgya_bridge.proofs.Numbers.{known}
-use Rattle.mivtolgya_bridge.proofs.Answers.{refused-number, refused-slice, done-number, done-slice, accepted-good}
-use Rattle.mivtolgya_bridge.proofs.Loads.{behind-14}
+use Rattle.bridge_calls.specs.Calls.{goodLoads, resolvedBridgeCall, resolvedBridgeSide, resolvedBridgeMatrix}
+use Rattle.bridge_calls.specs.Steps.{resolvedBridgeNumber}
+use Rattle.bridge_calls.proofs.Numbers.{known}
+use Rattle.bridge_calls.proofs.Answers.{refused-number, refused-slice, done-number, done-slice, accepted-good}
+use Rattle.bridge_calls.proofs.Loads.{behind-14}
 
 -- ---- its number, behind the tags and the kind
 module _ (bank : List (List Float)) (starts counts : List ℕ) (transient : ℕ) (alpha : Float) (cells : List (List ℕ)) (rows values : ℕ)

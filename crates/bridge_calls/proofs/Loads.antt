@@ -15,10 +15,10 @@ use Rattle.device_bank.specs.Bank.{devicesOf, bankRow}
 use Rattle.bridge.specs.Runs.{bridgeRefused, blockRefused}
 use Rattle.bridge.specs.Bridge.{Slices, devicesRows, loadInOrder, zeroed, bridgeRows, bridgeOf, bridgeSlices, partOf, withPart, blockRows, blockOf, blockSlices}
 use Rattle.bridge.proofs.Runs.{RunInside, run-inside}
-use Rattle.mivtolgya_bridge.specs.Calls.{goodLoads, bridgeCall, bridgeSide, bridgeMatrix, blockCall, blockSide, blockMatrix}
-use Rattle.mivtolgya_bridge.specs.Steps.{bridgeNumber, blockNumber}
-use Rattle.mivtolgya_bridge.proofs.Numbers.{length-devices}
-use Rattle.mivtolgya_bridge.proofs.Answers.{refused-number, refused-slice, done-number, done-slice, accepted-good}
+use Rattle.bridge_calls.specs.Calls.{goodLoads, bridgeCall, bridgeSide, bridgeMatrix, blockCall, blockSide, blockMatrix}
+use Rattle.bridge_calls.specs.Steps.{bridgeNumber, blockNumber}
+use Rattle.bridge_calls.proofs.Numbers.{length-devices}
+use Rattle.bridge_calls.proofs.Answers.{refused-number, refused-slice, done-number, done-slice, accepted-good}
 
 pub length-zeroed : (xs : List Float) → length (zeroed xs) ≡ length xs
 unfolding zeroed

@@ -8,7 +8,7 @@ use lib.Ieee.{Float}
 use borrow.Author.Tests.{le-leb, lt-leb}
 use Rattle.device.specs.Refusals.{Row, rowNumber, _when_}
 use Rattle.device_bank.specs.Bank.{devicesOf, bankGood}
-use Rattle.mivtolgya_bridge.specs.Calls.{goodLoads}
+use Rattle.bridge_calls.specs.Calls.{goodLoads}
 
 -- the tags and the kind
 module _ (bank : List (List Float)) (transient : ℕ) (g : Bool) (is : g ≡ bankGood bank) (n : ℕ) where

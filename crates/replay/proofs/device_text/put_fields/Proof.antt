@@ -2,14 +2,17 @@ use Prim.Native.Nat.{_-_, _≤_}
 use mathlib.Core.Path.{_≡_}
 use lib.ListN.{length}
 use borrow.Author.Needs.{needs}
-use Rattle.replay.proofs.device_text.put_floats.Statement.{statement}
-use Rattle.replay.proofs.device_text.put_floats.Tie as tie
+use Rattle.replay.proofs.device_text.put_fields.Statement.{statement}
+use Rattle.replay.proofs.device_text.put_fields.Tie as tie
 
 abbrev Inv-loop : tie.InvT-loop
-Inv-loop out₀ at names xs n₀ i₀ out n i = (i ≤ length xs) × (length out ≡ length out₀)
+Inv-loop out₀ at names firsts w fields n₀ i₀ out n i = (i ≤ fields) × (length out ≡ length out₀)
 
 abbrev μ-loop : tie.MeasureT-loop
-μ-loop out₀ at names xs n₀ i₀ out n i = length xs - i
+μ-loop out₀ at names firsts w fields n₀ i₀ out n i = fields - i
+
+word-count-requires : tie.Need-word-count-requires Inv-loop μ-loop
+word-count-requires c κs = search needs
 
 loop-holds : tie.Need-loop-holds Inv-loop μ-loop
 loop-holds c = search needs
@@ -17,14 +20,11 @@ loop-holds c = search needs
 word-requires : tie.Need-word-requires Inv-loop μ-loop
 word-requires c κs = search needs
 
-mul-put-float : tie.Need-mul-put-float Inv-loop μ-loop
-mul-put-float c = search needs
+first-of-requires : tie.Need-first-of-requires Inv-loop μ-loop
+first-of-requires c κs = search needs
 
-shared-slice-read-put-float : tie.Need-shared-slice-read-put-float Inv-loop μ-loop
-shared-slice-read-put-float c = search needs
-
-put-float-requires : tie.Need-put-float-requires Inv-loop μ-loop
-put-float-requires c κs = search needs
+put-field-requires : tie.Need-put-field-requires Inv-loop μ-loop
+put-field-requires c κs = search needs
 
 add-i : tie.Need-add-i Inv-loop μ-loop
 add-i c = search needs
@@ -41,17 +41,17 @@ same-length c = search needs
 returns : tie.Need-returns Inv-loop μ-loop
 returns c = search needs
 
-pub put-floats-spec : {M : Type 1} → statement M
-put-floats-spec =
+pub put-fields-spec : {M : Type 1} → statement M
+put-fields-spec =
     tie.close
     (tie.spec
     Inv-loop
     μ-loop
+    word-count-requires
     loop-holds
     word-requires
-    mul-put-float
-    shared-slice-read-put-float
-    put-float-requires
+    first-of-requires
+    put-field-requires
     add-i
     loop-less
     loop-again

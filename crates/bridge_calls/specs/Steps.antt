@@ -13,7 +13,7 @@ use Rattle.device_bank.specs.Bank.{devicesOf}
 use Rattle.bridge.specs.Runs.{bridgeRefused, blockRefused}
 use Rattle.bank_resolved.specs.Resolved.{celledOf, celledRows}
 use Rattle.bridge.specs.Bridge.{devicesRows}
-use Rattle.mivtolgya_bridge.specs.Calls.{goodLoads}
+use Rattle.bridge_calls.specs.Calls.{goodLoads}
 
 unfoldable pub bridgeNumber : List (List Float) → List ℕ → List ℕ → ℕ → Float → Pattern → ℕ → ℕ → ℕ
 bridgeNumber bank starts counts transient alpha P rows values =
