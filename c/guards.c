@@ -447,6 +447,225 @@ static void try_resolved_loads(end at) {
     try_resolved_load(at, &k);
 }
 
+/* ---- a block and a whole bridge */
+
+typedef struct {
+    uint64_t refusal;
+    mivtolgya_device bank[MIVTOLGYA_MOST_DEVICES + 1];
+    size_t devices, block, starts[2], start_count, counts[2], count_count;
+    uint64_t transient;
+    size_t side;       /* how many rows the right-hand side has */
+    load_case pattern; /* its rows, columns and offsets alone */
+} bridge_case;
+
+/* the records and the runs of a case as they are lent */
+typedef struct {
+    const mivtolgya_device *bank;
+    const size_t *starts, *counts;
+} lent_bank;
+
+static lent_bank lend_bank(end at, const bridge_case *k) {
+    lent_bank b = {COPY(k->bank, k->devices, READ), COPY(k->starts, k->start_count, READ), COPY(k->counts, k->count_count, READ)};
+    return b;
+}
+
+/* two devices; the block that is tried owns rows 3 to 6 of eight, the other one rows 1 and 2 */
+static bridge_case full_bridge_case(void) {
+    const load_case full = full_case();
+    bridge_case k = {MIVTOLGYA_ACCEPTED, {full.device, full.device}, 2, 0, {3, 1}, 2, {4, 2}, 2, 1, 8, full};
+    return k;
+}
+
+/* what the slices hold before each load, and what the two devices, one after another, make of it from the row `first` on */
+static const double held[16] = {0.5, 0.25, 0.5, 0.25, 0.5, 0.25, 0.5, 0.25, 0.5, 0.25, 0.5, 0.25, 0.5, 0.25, 0.5, 0.25};
+
+static int loaded(const bridge_case *k, const lent_bank *b, const lent_pattern *p, size_t first, const double *from, const double *rhs,
+                  const double *values) {
+    double side[16], cells[16];
+    memcpy(side, from, sizeof side);
+    memcpy(cells, from, sizeof cells);
+    for (size_t i = 0; i < k->devices; i++) {
+        must(mivtolgya_load_in_place(&b->bank[i], k->transient, 0.0, side + first, 4, cells, p->count, p->columns, p->count, p->offsets,
+                                     k->pattern.rows, p->lengths, k->pattern.rows));
+    }
+    return memcmp(side, rhs, k->side * sizeof *rhs) == 0 && memcmp(cells, values, p->count * sizeof *values) == 0;
+}
+
+static void try_block(end at, const bridge_case *k) {
+    use how = k->refusal == MIVTOLGYA_ACCEPTED ? WRITE : READ;
+    const lent_bank b = lend_bank(at, k);
+    const lent_pattern p = lend(at, &k->pattern);
+    double *rhs = COPY(held, k->side, how), *values = COPY(held, p.count, how);
+    if (child("block load", at, k->refusal)) {
+        const uint64_t refusal = mivtolgya_load_block(b.bank, k->devices, k->block, b.starts, k->start_count, b.counts, k->count_count,
+                                                      k->transient, 0.0, rhs, k->side, values, p.count, p.columns, p.count, p.offsets,
+                                                      k->pattern.rows, p.lengths, k->pattern.rows);
+        answered(how == READ || loaded(k, &b, &p, k->starts[k->block], held, rhs, values) ? refusal : UINT64_MAX, k->refusal);
+    }
+}
+
+static void try_bridge(end at, const bridge_case *k) {
+    static const double zeros[16];
+    use how = k->refusal == MIVTOLGYA_ACCEPTED ? WRITE : READ;
+    const lent_bank b = lend_bank(at, k);
+    const lent_pattern p = lend(at, &k->pattern);
+    double *rhs = COPY(held, k->side, how), *values = COPY(held, p.count, how);
+    if (child("bridge load", at, k->refusal)) {
+        const uint64_t refusal =
+            mivtolgya_load_bridge(b.bank, k->devices, b.starts, k->start_count, b.counts, k->count_count, k->transient, 0.0, rhs, k->side,
+                                  values, p.count, p.columns, p.count, p.offsets, k->pattern.rows, p.lengths, k->pattern.rows);
+        answered(how == READ || loaded(k, &b, &p, 0, zeros, rhs, values) ? refusal : UINT64_MAX, k->refusal);
+    }
+}
+
+static void try_block_and_bridge(end at, const bridge_case *k) {
+    try_block(at, k);
+    try_bridge(at, k);
+}
+
+/* runs, blocks and counts of devices that each kind of load refuses */
+static void try_runs(end at, void (*try_one)(end, const bridge_case *)) {
+    static const size_t bad[][4] = {{3, 6, 4, 1}, {3, 1, 4, 3}, {5, 1, 4, 2}, {3, 9, 4, 0}, {3, SIZE_MAX, 4, 1}, {3, 1, SIZE_MAX, 2}};
+    const bridge_case full = full_bridge_case();
+    bridge_case k = full;
+    k.refusal = MIVTOLGYA_REFUSED_RUN;
+    for (size_t i = 0; i < sizeof bad / sizeof *bad; i++) {
+        memcpy(k.starts, bad[i], sizeof k.starts);
+        memcpy(k.counts, bad[i] + 2, sizeof k.counts);
+        try_one(at, &k);
+    }
+    k = full;
+    k.refusal = MIVTOLGYA_REFUSED_RUN;
+    k.start_count = 1;
+    try_one(at, &k);
+    k = full;
+    k.refusal = MIVTOLGYA_REFUSED_RUN;
+    for (size_t i = 2; i <= MIVTOLGYA_MOST_DEVICES; i++) {
+        k.bank[i] = k.bank[0];
+    }
+    k.devices = MIVTOLGYA_MOST_DEVICES + 1;
+    try_one(at, &k);
+    k.refusal = MIVTOLGYA_ACCEPTED;
+    k.devices = MIVTOLGYA_MOST_DEVICES;
+    try_one(at, &k);
+    k.devices = 0;
+    try_one(at, &k);
+}
+
+/* the second device is refused, after the first one could have been loaded; tags come before runs */
+static void try_second_device(end at, void (*try_one)(end, const bridge_case *)) {
+    const bridge_case full = full_bridge_case();
+    bridge_case k = full;
+    k.refusal = MIVTOLGYA_REFUSED_STAGE;
+    k.bank[1] = device_at(MIVTOLGYA_STAGE_BOUND, mivtolgya_no_step());
+    try_one(at, &k);
+    k.refusal = MIVTOLGYA_REFUSED_STEP;
+    k.bank[1] = device_at(MIVTOLGYA_STAGE_EVALUATED, mivtolgya_no_step());
+    try_one(at, &k);
+    k = full;
+    k.refusal = MIVTOLGYA_REFUSED_NODE;
+    k.bank[1].terminals.gate.index = 8;
+    try_one(at, &k);
+    k = full;
+    k.refusal = MIVTOLGYA_REFUSED_TAG;
+    k.starts[0] = 8;
+    k.transient = 2;
+    try_one(at, &k);
+    k.transient = 1;
+    mivtolgya_device *second = &k.bank[1];
+    uint64_t *const tags[] = {&second->stage, &second->method.tag, &second->terminals.bulk.tag, &second->histories.bd_hist.q_prev2.tag};
+    for (size_t i = 0; i < sizeof tags / sizeof *tags; i++) {
+        const uint64_t good = *tags[i];
+        *tags[i] = 7;
+        try_one(at, &k);
+        *tags[i] = good;
+    }
+}
+
+static void try_bridges(end at) {
+    const bridge_case full = full_bridge_case();
+    bridge_case k = full;
+    try_block_and_bridge(at, &k);
+    k.transient = 0;
+    try_block_and_bridge(at, &k);
+    try_runs(at, try_block_and_bridge);
+    try_second_device(at, try_block_and_bridge);
+    k = full;
+    k.refusal = MIVTOLGYA_REFUSED_RUN;
+    k.block = 2;
+    try_block(at, &k);
+    k.block = SIZE_MAX;
+    try_block(at, &k);
+    k = full;
+    k.start_count = k.count_count = 0;
+    try_bridge(at, &k);
+    /* the block's own run is too short, whatever lies behind it */
+    k = full;
+    k.refusal = MIVTOLGYA_REFUSED_NODE;
+    k.counts[0] = 3;
+    try_block(at, &k);
+    k.side = 3;
+    k.start_count = k.count_count = 0;
+    try_bridge(at, &k);
+    k = full;
+    k.refusal = MIVTOLGYA_REFUSED_PATTERN;
+    k.pattern.offsets[3] = SIZE_MAX;
+    try_block_and_bridge(at, &k);
+    k = full;
+    k.refusal = MIVTOLGYA_REFUSED_MISSING_CELL;
+    k.pattern.columns[15] = 4;
+    try_block_and_bridge(at, &k);
+}
+
+/* ---- a whole bridge by the cells of its devices */
+
+static mivtolgya_cells lists[MIVTOLGYA_MOST_DEVICES + 1];
+static size_t list_count, value_count;
+
+static void try_resolved_bridge(end at, const bridge_case *k) {
+    static const double zeros[16];
+    use how = k->refusal == MIVTOLGYA_ACCEPTED ? WRITE : READ;
+    const lent_bank b = lend_bank(at, k);
+    const lent_pattern p = lend(at, &k->pattern);
+    const mivtolgya_cells *cells = COPY(lists, list_count, READ);
+    double *rhs = COPY(held, k->side, how), *values = COPY(held, value_count, how);
+    if (child("resolved bridge load", at, k->refusal)) {
+        const uint64_t refusal = mivtolgya_load_bridge_resolved(b.bank, k->devices, b.starts, k->start_count, b.counts, k->count_count,
+                                                                k->transient, 0.0, cells, list_count, rhs, k->side, values, value_count);
+        answered(how == READ || loaded(k, &b, &p, 0, zeros, rhs, values) ? refusal : UINT64_MAX, k->refusal);
+    }
+}
+
+static void try_resolved_bridges(end at) {
+    const mivtolgya_cells cells = full_resolved_case().cells;
+    bridge_case k = full_bridge_case();
+    for (list_count = 0; list_count <= MIVTOLGYA_MOST_DEVICES; list_count++) {
+        lists[list_count] = cells;
+    }
+    value_count = 16;
+    try_resolved_bridge(at, &k);
+    try_runs(at, try_resolved_bridge);
+    try_second_device(at, try_resolved_bridge);
+    /* a list behind the last device is not read; one that is missing is */
+    memset(&lists[2], 0xff, sizeof cells);
+    list_count = 3;
+    try_resolved_bridge(at, &k);
+    list_count = 2;
+    try_resolved_bridge(at, &k);
+    k.refusal = MIVTOLGYA_REFUSED_MISSING_CELL;
+    list_count = 1;
+    try_resolved_bridge(at, &k);
+    list_count = 2;
+    lists[1].places[23] = 16;
+    try_resolved_bridge(at, &k);
+    k.refusal = MIVTOLGYA_REFUSED_PATTERN;
+    lists[1].values = 17;
+    try_resolved_bridge(at, &k);
+    k.refusal = MIVTOLGYA_REFUSED_NODE;
+    lists[1].rows = 3;
+    try_resolved_bridge(at, &k);
+}
+
 int main(void) {
     for (int i = 0; i < 2; i++) {
         end at = i == 0 ? FIRST : LAST;
@@ -457,6 +676,8 @@ int main(void) {
         try_loads(at);
         try_resolves(at);
         try_resolved_loads(at);
+        try_bridges(at);
+        try_resolved_bridges(at);
     }
     printf("%d calls between guard pages, %d failed\n", calls, failures);
     return failures == 0 ? 0 : 1;

@@ -52,6 +52,9 @@ static uint32_t laid_columns[MIVTOLGYA_LAYOUT_COLUMNS];
 static size_t laid_offsets[6], laid_lengths[6];
 static mivtolgya_noise_outcome noise_outcome;
 static mivtolgya_reactances_outcome reactances_outcome;
+static mivtolgya_device bank[3];
+static const size_t starts[] = {0, 6}, counts[] = {6, 2};
+static double shared[8];
 static uint64_t refusal;
 
 static void nothing(void) { refusal = 0; }
@@ -95,6 +98,22 @@ static void load_resolved(void) {
     refusal = mivtolgya_load_resolved(&copy, conditions.transient, 1e9, &resolve_outcome.cells, rhs, 6, values, 36);
 }
 
+static void load_block(void) {
+    refusal = mivtolgya_load_block(bank, 3, 0, starts, 2, counts, 2, conditions.transient, 1e9, shared, 8, values, 36, columns, 36, offsets,
+                                   6, lengths, 6);
+}
+
+static void load_bridge(void) {
+    refusal = mivtolgya_load_bridge(bank, 3, starts, 2, counts, 2, conditions.transient, 1e9, shared, 8, values, 36, columns, 36, offsets,
+                                    6, lengths, 6);
+}
+
+static mivtolgya_cells lists[3];
+
+static void load_bridge_resolved(void) {
+    refusal = mivtolgya_load_bridge_resolved(bank, 3, starts, 2, counts, 2, conditions.transient, 1e9, lists, 3, shared, 8, values, 36);
+}
+
 /* a stage's calls, and what each took at most */
 typedef struct {
     const char *name;
@@ -116,6 +135,9 @@ static measured all[] = {
     {"load by value", load_by_value, MIVTOLGYA_STAGE_EVALUATED, MIVTOLGYA_STAGE_EVALUATED, 0},
     {"resolving", resolve, MIVTOLGYA_STAGE_BOUND, MIVTOLGYA_STAGE_EVALUATED, 0},
     {"resolved load", load_resolved, MIVTOLGYA_STAGE_EVALUATED, MIVTOLGYA_STAGE_EVALUATED, 0},
+    {"block load", load_block, MIVTOLGYA_STAGE_EVALUATED, MIVTOLGYA_STAGE_EVALUATED, 0},
+    {"bridge load", load_bridge, MIVTOLGYA_STAGE_EVALUATED, MIVTOLGYA_STAGE_EVALUATED, 0},
+    {"resolved bridge load", load_bridge_resolved, MIVTOLGYA_STAGE_EVALUATED, MIVTOLGYA_STAGE_EVALUATED, 0},
     {"commit in place", commit_in_place, MIVTOLGYA_STAGE_EVALUATED, MIVTOLGYA_STAGE_EVALUATED, 0},
     {"commit by value", commit_by_value, MIVTOLGYA_STAGE_EVALUATED, MIVTOLGYA_STAGE_EVALUATED, 0},
     {"noise", noise, MIVTOLGYA_STAGE_EVALUATED, MIVTOLGYA_STAGE_EVALUATED, 0},
@@ -128,6 +150,8 @@ static void measure(size_t base) {
             continue;
         }
         copy = device;
+        bank[0] = bank[1] = bank[2] = device;
+        lists[0] = lists[1] = lists[2] = resolve_outcome.cells;
         size_t used = used_by(all[i].call) - base;
         if (refusal != MIVTOLGYA_ACCEPTED) {
             printf("%s was refused: %s\n", all[i].name, mivtolgya_refusal_text(refusal));

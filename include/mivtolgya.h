@@ -1,5 +1,7 @@
 /* The SPICE Level-1 MOSFET model: its calls for C and C++ on x86-64 Linux. Link libmivtolgya.a (`rt staticlib mivtolgya` writes it
- * to target/staticlib/). docs/USING.md has the order of the calls, the table of refusals, the keys with their ranges, and memory.
+ * to target/staticlib/), and beside it, in any order, libmivtolgya_bridge.a (`rt staticlib mivtolgya_bridge`) where a call on several
+ * devices is made: mivtolgya_load_block, mivtolgya_load_bridge, mivtolgya_load_bridge_resolved. docs/USING.md has the order of the
+ * calls, the table of refusals, the keys with their ranges, and memory.
  *
  * A device is a record in the caller's memory. Every call answers the number of the refusal: MIVTOLGYA_ACCEPTED, or one of
  * MIVTOLGYA_REFUSED_.. below. Evaluation, load and commit stand over the record where it lies (`_in_place`): only what changes is
@@ -52,6 +54,7 @@ extern "C" {
 #define MIVTOLGYA_REFUSED_STEP UINT64_C(11)         /* a step, or alpha where there is no step, is out of range */
 #define MIVTOLGYA_REFUSED_PATTERN UINT64_C(12)      /* the matrix is not laid out as it must be, or not as it was resolved */
 #define MIVTOLGYA_REFUSED_MISSING_CELL UINT64_C(13) /* the matrix has no place for a value, or the cells are another binding's */
+#define MIVTOLGYA_REFUSED_RUN UINT64_C(14)          /* runs overlap or leave the right-hand side, a block has no run, or too many devices */
 #define MIVTOLGYA_REFUSED_TAG UINT64_C(100)         /* an unknown tag, or memory that is no device */
 
 /* ---- what the inline checks below answer besides; the library itself never does */
@@ -84,6 +87,9 @@ extern "C" {
 /* How many columns mivtolgya_matrix_layout needs at most; without series resistances it needs at most 16. Lend it so many, and only the
  * room for the rows depends on the nodes. */
 #define MIVTOLGYA_LAYOUT_COLUMNS 22
+
+/* how many devices a block or a bridge has at most */
+#define MIVTOLGYA_MOST_DEVICES 64
 
 #define MIVTOLGYA_STAGE_CARD UINT64_C(1)
 #define MIVTOLGYA_STAGE_GEOMETRY UINT64_C(2)
@@ -560,6 +566,83 @@ uint64_t mivtolgya_load_resolved(
     double *values,
     size_t value_count);
 
+/* ---- calls on several devices, in libmivtolgya_bridge.a
+ *
+ * `bank` is the devices' records in a row, at most MIVTOLGYA_MOST_DEVICES, in device order; none is enough. They are only read.
+ * Block i of the bridge owns the `counts[i]` rows of the right-hand side from `starts[i]` on. Runs stand in any order; they may touch
+ * but not overlap, and each lies inside the right-hand side, an empty one too. Every call tests all of them (MIVTOLGYA_REFUSED_RUN).
+ * The number of the refusal is the lowest over all devices, but _RUN comes before the others and _TAG before it. Everything is tested
+ * before the first write: after a refusal both slices hold what they held. `transient` and alpha as in mivtolgya_load_in_place.
+ * bank, starts, counts: not null, aligned to 8, only read. The other pointers as in the load of a single device. */
+
+/* Loads one block of a bridge by itself: its devices in device order, as mivtolgya_load_in_place does one after another, on the part
+ * of the right-hand side that is the block's run, `rhs + starts[block]` with `counts[block]` rows, and on a matrix of the block's own.
+ * Nodes and columns are numbered from the start of the run. It adds; what lies outside the run stays. Refused by _RUN also where
+ * `block` is not below the count of the runs. */
+uint64_t mivtolgya_load_block(
+    const mivtolgya_device *bank,
+    size_t devices,
+    size_t block,
+    const size_t *starts,
+    size_t start_count,
+    const size_t *counts,
+    size_t count_count,
+    uint64_t transient,
+    double alpha,
+    double *rhs,
+    size_t rhs_count,
+    double *values,
+    size_t value_count,
+    const uint32_t *columns,
+    size_t column_count,
+    const size_t *offsets,
+    size_t offset_count,
+    const size_t *lengths,
+    size_t length_count);
+
+/* Loads the whole bridge: sets both slices to 0, gaps of the matrix too, and loads the devices in device order. They are bound to the
+ * rows of the bridge, where blocks share nodes: records of their own beside those of the blocks' tests. */
+uint64_t mivtolgya_load_bridge(
+    const mivtolgya_device *bank,
+    size_t devices,
+    const size_t *starts,
+    size_t start_count,
+    const size_t *counts,
+    size_t count_count,
+    uint64_t transient,
+    double alpha,
+    double *rhs,
+    size_t rhs_count,
+    double *values,
+    size_t value_count,
+    const uint32_t *columns,
+    size_t column_count,
+    const size_t *offsets,
+    size_t offset_count,
+    const size_t *lengths,
+    size_t length_count);
+
+/* `mivtolgya_load_bridge` on the pattern that the cells of all devices were resolved for, with the same answer and the same two
+ * slices, but without the pattern and without a search. `cells[i]` is what mivtolgya_resolve answered for device i; those behind the
+ * last device are not read. Refused as there, and as mivtolgya_load_resolved is: also by _MISSING_CELL where a device has no cells. What
+ * that call does not notice is not noticed here either.
+ * cells: not null, aligned to 8, only read. */
+uint64_t mivtolgya_load_bridge_resolved(
+    const mivtolgya_device *bank,
+    size_t devices,
+    const size_t *starts,
+    size_t start_count,
+    const size_t *counts,
+    size_t count_count,
+    uint64_t transient,
+    double alpha,
+    const mivtolgya_cells *cells,
+    size_t cells_count,
+    double *rhs,
+    size_t rhs_count,
+    double *values,
+    size_t value_count);
+
 /* ---- checks before the first call */
 
 /* Whether this header belongs to the archive that is linked: MIVTOLGYA_ACCEPTED, _OTHER_VERSION or _OTHER_RECORD. */
@@ -608,6 +691,7 @@ static inline const char *mivtolgya_refusal_text(uint64_t number) {
     case MIVTOLGYA_REFUSED_STEP: return "a step or alpha is out of range";
     case MIVTOLGYA_REFUSED_PATTERN: return "the matrix is not laid out as it must be, or not as it was resolved";
     case MIVTOLGYA_REFUSED_MISSING_CELL: return "the matrix has no place for a value, or the cells are another binding's";
+    case MIVTOLGYA_REFUSED_RUN: return "runs of rows overlap or leave the right-hand side, a block has no run, or too many devices";
     case MIVTOLGYA_REFUSED_TAG: return "an unknown tag, or memory that is no device";
     case MIVTOLGYA_OTHER_VERSION: return "the archive has another interface";
     case MIVTOLGYA_OTHER_RECORD: return "the archive's device has another size";

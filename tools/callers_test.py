@@ -1,10 +1,10 @@
 #!/usr/bin/env python3
 """Everything that a caller in C or Rust meets, held to the sources and to the compiled library.
 
-Run from the repository's root after `rt staticlib mivtolgya`; .ci/run does both after the proofs. It compares every #[repr(C)]
-record, every export and every constant of include/mivtolgya.h and rust/ with crates/, and the tables of docs/USING.md with both;
-then it compiles and runs the C programs (gcc, g++), the Rust tests and examples (cargo), and the programs that README shows. What
-cannot be tried because a compiler is missing is said in a line. Ends with status 1 if one of the parts failed.
+Run from the repository's root after `rt staticlib mivtolgya` and `rt staticlib mivtolgya_bridge`; .ci/run does all after the proofs. It
+compares every #[repr(C)] record, every export and every constant of include/mivtolgya.h and rust/ with crates/, and the tables of
+docs/USING.md with both; then it compiles and runs the C programs (gcc, g++), the Rust tests and examples (cargo), and the programs that
+README shows. What cannot be tried because a compiler is missing is said in a line. Ends with status 1 if one of the parts failed.
 """
 import os
 import platform
@@ -12,16 +12,18 @@ import sys
 import tempfile
 
 from callers import c_part, rust_part, sources, texts
-from callers.run import ARCHIVE
+from callers.run import ARCHIVE, BRIDGE
 
 
 def fit_for_programs():
-    """Whether programs over the archive can be run here."""
+    """Whether programs over the archives can be run here."""
     if platform.machine() != "x86_64":
-        print(f"callers: this machine is {platform.machine()}: programs over the archive, which is for x86-64, were not tried")
+        print(f"callers: this machine is {platform.machine()}: programs over the archives, which are for x86-64, were not tried")
         return False
-    if not os.path.exists(ARCHIVE):
-        sys.exit(f"callers: FAILED: {ARCHIVE} is missing: run `rt staticlib mivtolgya` first")
+    for archive in (ARCHIVE, BRIDGE):
+        if not os.path.exists(archive):
+            name = os.path.basename(archive).removeprefix("lib").removesuffix(".a")
+            sys.exit(f"callers: FAILED: {archive} is missing: run `rt staticlib {name}` first")
     return True
 
 
@@ -39,7 +41,8 @@ def failed(part):
 def main():
     os.chdir(os.path.join(os.path.dirname(os.path.abspath(__file__)), ".."))
     os.makedirs("target", exist_ok=True)
-    all_records, all_exports = sources.records(), sources.exports()
+    all_records = sources.records()
+    all_exports = sources.exports(all_records)
     failures = [failed(lambda _: texts.check(all_records, all_exports))]
     if fit_for_programs():
         failures.append(failed(lambda folder: c_part.check(folder, all_records, all_exports, texts.check_keys(sources.read(texts.USING)))))

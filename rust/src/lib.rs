@@ -1,11 +1,13 @@
-//! The SPICE Level-1 MOSFET model, proved: a safe face of `libmivtolgya.a`. It needs no standard library and no heap.
+//! The SPICE Level-1 MOSFET model, proved: a safe face of `libmivtolgya.a` and `libmivtolgya_bridge.a`. It needs no standard library
+//! and no heap.
 //!
 //! A [`Device`] owns its record. The calls come in the order card, geometry, scaling, binding, evaluation; load, commit, noise and
 //! reactances follow an evaluation. [`Device::matrix_layout`] answers, after the binding, the matrix that every load of the device fits
 //! into. A loop over a large matrix looks the device's [`Cells`] up once, by [`Device::resolve`] after the binding, and loads by
-//! [`Device::load_resolved`]; one over many devices lays the conditions out once, for [`Device::eval_at`]. Every call answers or is
-//! refused by a [`Refusal`]; after a refusal the device and every lent slice hold what they held. The repository's docs/USING.md has
-//! the keys with their ranges, the causes of refusals, and what threads may share.
+//! [`Device::load_resolved`]; one over many devices lays the conditions out once, for [`Device::eval_at`]. A bridge of up to
+//! [`MOST_DEVICES`] devices is loaded by one call, [`load_bridge`] or [`load_bridge_resolved`], and a block of it by [`load_block`]. Every
+//! call answers or is refused by a [`Refusal`]; after a refusal the device and every lent slice hold what they held. The
+//! repository's docs/USING.md has the keys with their ranges, the causes of refusals, and what threads may share.
 //!
 //! ```
 //! use mivtolgya::{Conditions, Device, Method, Node, Polarity};
@@ -25,12 +27,14 @@
 #[cfg(not(all(target_arch = "x86_64", target_os = "linux", target_pointer_width = "64")))]
 compile_error!("libmivtolgya.a is an archive for x86-64 Linux");
 
+mod bridge;
 mod calls;
 mod keys;
 #[allow(missing_docs)]
 mod record;
 mod refusal;
 
+pub use bridge::{load_block, load_bridge, load_bridge_resolved, Runs};
 pub use keys::{Keys, MAX_KEYS, MAX_KEY_BYTES};
 pub use record::*;
 pub use refusal::{check_floating_point, check_interface, Refusal};
@@ -215,8 +219,10 @@ fn reactance(record: ReactanceRecord) -> Option<Reactance> {
     })
 }
 
-/// A device, from the stage of its card on. It is 904 bytes of plain numbers: a clone is a second device.
+/// A device, from the stage of its card on. It is 904 bytes of plain numbers: a clone is a second device. A slice of devices lies as
+/// their records do, which the loads of a bridge read.
 #[derive(Clone, Debug)]
+#[repr(transparent)]
 pub struct Device {
     record: DeviceRecord,
 }

@@ -36,6 +36,9 @@ pub const CELL_ABSENT: usize = usize::MAX - 1;
 /// How many columns [`Device::matrix_layout`](crate::Device::matrix_layout) needs at most; without series resistances at most 16.
 pub const LAYOUT_COLUMNS: usize = 22;
 
+/// How many devices a block or a bridge has at most.
+pub const MOST_DEVICES: usize = 64;
+
 /// Stage of a device: its card was read.
 pub const STAGE_CARD: u64 = 1;
 /// Stage of a device: its geometry was set.

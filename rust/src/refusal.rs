@@ -61,6 +61,9 @@ refusals! {
     Pattern = 12, "the matrix is not laid out as it must be, or not as it was resolved";
     /// The matrix has no place for a value, or the cells were resolved for another binding.
     MissingCell = 13, "the matrix has no place for a value, or the cells are another binding's";
+    /// Two blocks' runs of rows overlap, one leaves the right-hand side, the block has no run, or there are more than
+    /// [`MOST_DEVICES`](crate::MOST_DEVICES) devices.
+    Run = 14, "runs of rows overlap or leave the right-hand side, a block has no run, or too many devices";
     /// An unknown tag, or memory that is no device. Through this wrapper only a [`ConditionsRecord`](crate::ConditionsRecord) that
     /// was written by hand can have one.
     Tag = 100, "an unknown tag, or memory that is no device";

@@ -106,5 +106,5 @@ fn a_refusal_is_an_error_with_words() {
         assert!(error.to_string().starts_with(&format!("refusal {}: ", refusal.number())));
     }
     assert_eq!(Refusal::from_number(0), None);
-    assert_eq!(Refusal::from_number(14), None);
+    assert_eq!(Refusal::from_number(15), None);
 }

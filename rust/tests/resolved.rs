@@ -1,5 +1,6 @@
 //! Cells resolved once, and the load by them: what is looked up, that it loads as the search does, each refusal, forged cells.
 mod common;
+use common::matrix::*;
 use common::*;
 use mivtolgya::*;
 
@@ -18,66 +19,9 @@ const AREAS: [(&str, f64); 6] = [("w", 1e-5), ("l", 1e-6), ("as", 1e-10), ("ad",
 const VOLTS: [f64; 6] = [1.0, 3.0, 0.1, -0.2, 0.9, 0.15];
 const LOADS: [Load; 2] = [Load::DirectCurrent, Load::Transient(0.0)];
 
-/// A pattern, without values.
-#[derive(Clone)]
-struct Layout {
-    columns: Vec<u32>,
-    offsets: Vec<usize>,
-    lengths: Vec<usize>,
-}
-
-impl Layout {
-    /// Rows of these columns, before each a gap of so many places.
-    fn new(rows: &[Vec<u32>], gap: usize) -> Layout {
-        let mut made = Layout { columns: vec![], offsets: vec![], lengths: vec![] };
-        for row in rows {
-            made.columns.extend(vec![9; gap]);
-            made.offsets.push(made.columns.len());
-            made.lengths.push(row.len());
-            made.columns.extend(row);
-        }
-        made
-    }
-
-    fn full(rows: u32, gap: usize) -> Layout {
-        Layout::new(&vec![(0..rows).collect(); rows as usize], gap)
-    }
-
-    fn without(rows: u32, row: usize, column: u32) -> Layout {
-        let mut all = vec![(0..rows).collect::<Vec<u32>>(); rows as usize];
-        all[row].retain(|c| *c != column);
-        Layout::new(&all, 0)
-    }
-
-    fn resolve(&self, device: &Device) -> Result<Cells, Refusal> {
-        device.resolve(&self.columns, &self.offsets, &self.lengths)
-    }
-
-    /// Both slices after a load that searches, from contents that tell each place from the others.
-    fn searched(&self, device: &Device, load: Load) -> Result<(Vec<f64>, Vec<f64>), Refusal> {
-        let (mut rhs, mut values) = contents(self.offsets.len(), self.columns.len());
-        let matrix = Matrix { values: &mut values, columns: &self.columns, offsets: &self.offsets, lengths: &self.lengths };
-        device.load(load, &mut rhs, matrix)?;
-        Ok((rhs, values))
-    }
-}
-
-fn contents(rows: usize, count: usize) -> (Vec<f64>, Vec<f64>) {
-    ((0..rows).map(|i| i as f64).collect(), (0..count).map(|i| i as f64 / 8.0).collect())
-}
-
-/// Both slices after a load by cells, from the same contents. A refusal leaves them.
-fn resolved(device: &Device, load: Load, cells: &Cells, rows: usize, count: usize) -> Result<(Vec<f64>, Vec<f64>), Refusal> {
-    let (mut rhs, mut values) = contents(rows, count);
-    let answer = device.load_resolved(load, cells, &mut rhs, &mut values);
-    if answer.is_err() {
-        assert_eq!((&rhs, &values), (&contents(rows, count).0, &contents(rows, count).1));
-    }
-    answer.map(|()| (rhs, values))
-}
-
-fn bits_of(slices: (Vec<f64>, Vec<f64>)) -> Vec<u64> {
-    slices.0.iter().chain(&slices.1).map(|v| v.to_bits()).collect()
+/// Both slices after a load by cells. A refusal leaves them.
+fn resolved(device: &Device, load: Load, cells: &Cells, rows: usize, count: usize) -> Result<Slices, Refusal> {
+    after(contents(rows, count), |rhs, values| device.load_resolved(load, cells, rhs, values))
 }
 
 /// The load by cells gives the bits of the load that searches.

@@ -3,12 +3,12 @@ import os
 import re
 
 from . import texts
-from .run import ARCHIVE, expect, readme_program, run, there, write
-from .sources import NUMBERS, array, read, size
+from .run import ARCHIVE, BRIDGE, expect, readme_program, run, there, write
+from .sources import NUMBERS, array, exports_of, read, size
 
 WARNINGS = ["-Wall", "-Wextra", "-Wpedantic", "-Wconversion", "-Werror"]
 SANITIZERS = ["-g", "-O1", "-fsanitize=address,undefined", "-fno-sanitize-recover=all"]
-EXAMPLES = ["example", "loop"]
+EXAMPLES = {"example": [ARCHIVE], "loop": [ARCHIVE], "half_bridge": [ARCHIVE, BRIDGE]}
 C11 = ["gcc", "-std=c11", "-O2", *WARNINGS, "-Iinclude"]
 
 
@@ -61,32 +61,41 @@ def check_header(folder, all_records, all_exports):
     print("callers: the header has the sources' layout and prototypes, and passes C99 and C11 without a warning")
 
 
-def check_archive():
-    """The archive needs no symbol but memcpy and has no data that is written."""
-    needed = set(re.findall(r"^ +U (\S+)$", run("nm", "-u", ARCHIVE), re.M))
-    if needed - {"memcpy"}:
-        raise AssertionError(f"the archive needs {', '.join(sorted(needed))}")
-    for line in run("readelf", "-SW", ARCHIVE).split("\n"):
-        section = re.match(r"\s+\[\s*\d+\] (\S+)\s+\w+\s+\w+ \w+ (\w+) \w+ +([A-Za-z]*) ", line)
-        if section and "W" in section[3] and int(section[2], 16) > 0:
-            raise AssertionError(f"the archive has data that is written: {section[1]}")
-    print("callers: the archive needs no symbol but memcpy and has no writable data")
+def check_archives(all_records):
+    """Each archive has its crate's exports and no other symbol, needs none but those that USING names, and has no writable data."""
+    said = re.findall(r"`(libmivtolgya\w*\.a)` (?:needs no symbol|none) but (`\w+`(?: and `\w+`)*)", read(texts.USING))
+    allowed = {name: set(texts.ticked(symbols)) for name, symbols in said}
+    for archive in (ARCHIVE, BRIDGE):
+        name = os.path.basename(archive)
+        symbols = re.findall(r"^\w* +(\w) (\S+)$", run("nm", "-g", archive), re.M)
+        needed = {symbol for kind, symbol in symbols if kind == "U"} - allowed[name]
+        if needed:
+            raise AssertionError(f"{name} needs {', '.join(sorted(needed))}, which USING does not name")
+        exported = exports_of(name.removeprefix("lib").removesuffix(".a"), all_records)
+        texts.same(f"symbols of {name} and its exports", sorted(symbol for kind, symbol in symbols if kind != "U"), sorted(exported))
+        for line in run("readelf", "-SW", archive).split("\n"):
+            section = re.match(r"\s+\[\s*\d+\] (\S+)\s+\w+\s+\w+ \w+ (\w+) \w+ +([A-Za-z]*) ", line)
+            if section and "W" in section[3] and int(section[2], 16) > 0:
+                raise AssertionError(f"{name} has data that is written: {section[1]}")
+    needed = ", ".join(sorted(set().union(*allowed.values())))
+    print(f"callers: the archives have their exports alone and no writable data, and need no symbol but {needed}")
 
 
 def check_examples(folder, compiler, standard, language):
     binary = os.path.join(folder, "example")
     # there is no heap to look for leaks in, and the search for them is not allowed everywhere
     surroundings = {**os.environ, "ASAN_OPTIONS": "detect_leaks=0"}
-    for name in EXAMPLES:
+    for name, archives in EXAMPLES.items():
         source = ("-x", language, f"c/{name}.c", "-x", "none")
-        run(compiler, f"-std={standard}", *SANITIZERS, *WARNINGS, "-Iinclude", *source, ARCHIVE, "-o", binary)
+        in_order = archives if language == "c" else reversed(archives)  # any order links
+        run(compiler, f"-std={standard}", *SANITIZERS, *WARNINGS, "-Iinclude", *source, *in_order, "-o", binary)
         expect(f"c/{name}.c by {compiler}", run(binary, env=surroundings), read(f"c/{name}.stdout"))
-    print(f"callers: {' and '.join(f'c/{name}.c' for name in EXAMPLES)}, {standard} by {compiler} with sanitizers")
+    print(f"callers: {', '.join(f'c/{name}.c' for name in EXAMPLES)}: {standard} by {compiler} with sanitizers")
 
 
 def check_program(folder, name):
     binary = os.path.join(folder, name)
-    run(*C11, f"c/{name}.c", ARCHIVE, "-lm", "-o", binary)
+    run(*C11, f"c/{name}.c", ARCHIVE, BRIDGE, "-lm", "-o", binary)
     return run(binary)
 
 
@@ -202,10 +211,10 @@ def check_readme(folder):
 
 def check(folder, all_records, all_exports, listed):
     if not there("gcc"):
-        print("callers: gcc is missing: the header, the C programs and the archive were not tried")
+        print("callers: gcc is missing: the header, the C programs and the archives were not tried")
         return
     check_header(folder, all_records, all_exports)
-    check_archive()
+    check_archives(all_records)
     check_examples(folder, "gcc", "c99", "c")
     if there("g++"):
         check_examples(folder, "g++", "c++17", "c++")

@@ -6,7 +6,7 @@ import subprocess
 
 from .sources import read
 
-ARCHIVE = "target/staticlib/libmivtolgya.a"
+ARCHIVE, BRIDGE = "target/staticlib/libmivtolgya.a", "target/staticlib/libmivtolgya_bridge.a"
 
 
 def run(*command, status=0, **more):

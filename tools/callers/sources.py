@@ -47,13 +47,22 @@ def records():
     return found
 
 
-def exports():
-    """Every exported function: its name to (parameters, result), each parameter (name, type)."""
+def exports_of(crate, all_records):
+    """A crate's exported functions: each name to (parameters, result), each parameter (name, type)."""
     found = {}
-    for path in sorted(glob.glob("crates/mivtolgya/src/*.rt")):
-        for name, body, result in re.findall(r'pub extern "C" fn (\w+)\((.*?)\) -> (?:\w+::)?(\w+)', with_cells(path), re.S):
+    # a device of a bank is the words of its record; header and wrapper lend the records
+    words = f"[f64; {size('DeviceRecord', all_records) // 8}]"
+    for path in sorted(glob.glob(f"crates/{crate}/src/*.rt")):
+        text = with_cells(path).replace(words, "DeviceRecord")
+        for name, body, result in re.findall(r'pub extern "C" fn (\w+)\((.*?)\) -> (?:\w+::)?(\w+)', text, re.S):
             parts = filter(None, (p.strip() for p in body.replace("\n", " ").split(",")))
             found[name] = ([tuple(p.split(": ")) for p in parts], result)
+    return found
+
+
+def exports(all_records):
+    """The exported functions of both archives' crates."""
+    found = {**exports_of("mivtolgya", all_records), **exports_of("mivtolgya_bridge", all_records)}
     return found
 
 
@@ -97,6 +106,11 @@ def layout_columns():
     return [int(n) for n in laws]
 
 
+def most_devices():
+    """How many devices a bridge has at most."""
+    return int(re.search(r"^mostDevices = (\d+)$", code("crates/bridge/specs/Runs.antt"), re.M)[1])
+
+
 # the definitions that list a call's rows
 ROWS = {
     "card": ["entries/specs/Entries keyRows", "card/specs/Card cardRows"],
@@ -109,6 +123,9 @@ ROWS = {
     "load": ["loading/specs/Loading loadRows"],
     "resolving": ["resolve/specs/Resolve resolveRows"],
     "resolved load": ["resolved_rows/specs/LoadResolved loadResolvedRows"],
+    "block load": ["bridge/specs/Bridge blockRows", "bridge/specs/Bridge devicesRows"],
+    "bridge load": ["bridge/specs/Bridge bridgeRows", "bridge/specs/Bridge devicesRows"],
+    "resolved bridge load": ["bank_resolved/specs/Resolved bridgeCelledRows", "bank_resolved/specs/Resolved celledRows"],
     "commit": ["rows/specs/Rows commitRows"],
     "noise": ["rows/specs/Rows noiseRows"],
     "reactances": ["rows/specs/Rows reactanceRows"],
@@ -130,6 +147,8 @@ def unknown_tag():
     found = set()
     for path in glob.glob("crates/record_*/specs/*.antt"):
         found.update(re.findall(r"refusal = (\d+)|[rR]efused\w* (?:r )?(\d+)\)", code(path)))
+    calls = code("crates/mivtolgya_bridge/specs/Calls.antt")
+    found.update(("", number) for number in re.findall(r"^ +cond \(good\w+ [^()]*\) \(number .*\) (\d+)$", calls, re.M))
     (number,) = {int(n) for groups in found for n in groups if n} - {0}
     return number
 

@@ -67,13 +67,17 @@ def check_marks():
     same("marks of the wrapper", wrapper, {"CELL_GROUND": "usize::MAX", "CELL_ABSENT": "usize::MAX - 1"})
 
 
-def check_layout_columns():
-    """The room for columns that header, wrapper and USING name is that of the sources' laws."""
-    laws = sources.layout_columns()
-    for path, pattern in ((HEADER, r"#define MIVTOLGYA_LAYOUT_COLUMNS (\d+)"), (RECORDS, r"pub const LAYOUT_COLUMNS: usize = (\d+);")):
-        same(f"room for columns in {path} and sources", [int(n) for n in re.findall(pattern, read(path))], laws[:1])
+def check_counts():
+    """The room for columns and the count of devices that header, wrapper and USING name are those of the sources."""
+    laws, devices = sources.layout_columns(), sources.most_devices()
+    for name, count in (("LAYOUT_COLUMNS", laws[0]), ("MOST_DEVICES", devices)):
+        header = re.findall(rf"#define MIVTOLGYA_{name} (\d+)", read(HEADER))
+        wrapper = re.findall(rf"pub const {name}: usize = (\d+);", read(RECORDS))
+        same(f"{name} of header and wrapper, and the sources' number,", header + wrapper, [str(count)] * 2)
     if "at most {} columns, and {} without series resistances".format(*laws) not in read(USING):
         raise AssertionError("USING says otherwise how many columns a layout needs")
+    if f"at most {devices} devices" not in read(USING):
+        raise AssertionError("USING says otherwise how many devices a bridge has")
 
 
 def rust_parameters(parameters):
@@ -152,7 +156,7 @@ def check(all_records, all_exports):
     names, refused = check_numbers()
     check_records(all_records)
     check_marks()
-    check_layout_columns()
+    check_counts()
     check_exports(all_exports)
     check_refusals(read(USING))
     listed = check_keys(read(USING))

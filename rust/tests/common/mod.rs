@@ -1,5 +1,8 @@
 //! The device of the tests: an NMOS with its source and bulk at ground, drain in row 0, gate in row 1.
 #![allow(dead_code)]
+pub mod half_bridge;
+pub mod matrix;
+
 use mivtolgya::{Conditions, Device, Load, Matrix, Method, Node, Polarity, Refusal};
 
 pub const CARD: [(&str, f64); 5] = [("vto", 1.0), ("kp", 2.0), ("cgso", 1e-9), ("CJ", 2e-4), ("shiny", 0.0)];
