@@ -81,12 +81,13 @@ fn fields(mosfet1: &str) -> Vec<&str> {
         .collect()
 }
 
-/// `state` and `threshold`, made of the published text so that no field and no operation is written twice.
+/// `state`, `copied` and `threshold`, made of the published text so that no field and no operation is written twice.
 fn views(mosfet1: &str) -> String {
     let mut rows = String::new();
     for name in fields(mosfet1).into_iter().filter(|name| *name != "jac_cells") {
         rows += &format!("        (\"{name}\", self.{name}.written()),\n");
     }
+    let copies: String = fields(mosfet1).iter().map(|name| format!("            {name}: self.{name},\n")).collect();
     let eval = item(mosfet1, "    fn eval(&mut self, x: &[f64], flags: EvalFlags, ctx: &SimContext) {");
     let first = eval.find("        let phi_m_vbs = ").expect("the threshold's first line");
     let last = eval.find("        let vth = ").expect("the threshold's last line");
@@ -98,6 +99,11 @@ fn views(mosfet1: &str) -> String {
     pub fn state(&self) -> Vec<(&'static str, String)> {{
         vec![
 {rows}        ]
+    }}
+
+    pub fn copied(&self) -> Mosfet1 {{
+        Mosfet1 {{
+{copies}        }}
     }}
 
     pub fn threshold(&self, vbs_eff: f64) -> f64 {{

@@ -8,14 +8,16 @@
 The same arguments give the same text. A script is a sequence of devices. Each is given a card, a geometry, a scaling, a binding and then
 a list of evaluations, loads, commits, noises and reactances, with calls out of order, damaged calls and damaged lines in between. Cells are
 looked up in right and damaged patterns, and loaded by after other lookups, bindings and devices. They are laid out in slices that are short,
-exact and longer, and loads and lookups are made on what is laid out; the list has this in its fixed part alone. Values come from inside the
-ranges, their ends, the ends' neighbours and the odd numbers of the format.
+exact and longer, and loads and lookups are made on what is laid out. Devices are placed in a bank and loaded as blocks and bridges, with right
+and damaged runs. The list has layouts, blocks and bridges in its fixed part alone. Values come from inside the ranges, their ends, the ends'
+neighbours and the odd numbers of the format.
 """
 import math
 import random
 import struct
 import sys
 
+import bridge_calls
 import elementary_calls
 import layout_calls
 import load_calls
@@ -38,14 +40,16 @@ FUNCTIONS = {"exp": 1, "ln": 1, "ln_1p": 1, "sqrt": 1, "vt": 1, "bandgap_ev": 1,
 
 
 class Script:
-    def __init__(self, seed, states=1.0, layouts=True):
+    def __init__(self, seed, states=1.0, wishes=True):
         self.r = random.Random(seed)
         self.states = states
-        self.layouts = ["extra", "cells"] if layouts else []  # the calls of a layout
+        self.layouts = ["extra", "cells"] if wishes else []  # the calls of a layout
+        self.bridges = ["place", "loadblock", "loadbridge"] if wishes else []  # those of a bank of devices
         self.lines = []
         self.given = {}  # what the last card and the geometries since gave
         self.bound = None  # the last binding
         self.sizes = (0, 0)  # rows and values of the last lookup
+        self.bank = {}  # the terminals of the devices that were placed, by their places
 
     # ---- values
 
@@ -429,6 +433,130 @@ class Script:
             sides, values = self.contents(len(spans)), self.contents(len(columns))
             self.add("load %s %s %s %s %s" % (self.load_kind(None), numbers(sides), wholes(columns), pairs(spans), numbers(values)))
 
+    def place(self):
+        self.put(self.r.randrange(4) if self.r.random() < 0.9 else self.r.choice([63, 64, 65, self.any_whole()]))
+
+    def put(self, at):
+        self.bank[at] = self.terminals()
+        self.add("place %d" % at, False)
+
+    def loadblock(self):
+        self.load_bank(True)
+
+    def loadbridge(self):
+        self.load_bank(False)
+
+    def bank_count(self):
+        """As many devices as were placed without a gap, or another number."""
+        r = self.r
+        n = next((at for at in range(65) if at not in self.bank), 65)
+        return n if r.random() < 0.85 else r.choice([r.randrange(n + 1), 0, 1, n + 1, 64, 65, 66, self.any_whole()])
+
+    def bank_matrix(self, count):
+        """The cells that the first devices of the bank need together, seldom all but one, or a matrix that is full."""
+        r = self.r
+        held = [nodes for at, nodes in self.bank.items() if at < count]
+        rows = max(map(layout_calls.rows_to, held), default=0)
+        if rows > 40 or r.random() < 0.1:
+            rows = min(rows, 8)
+            return self.pattern(rows, rows)
+        cells = sorted({cell for nodes in held for cell in load_calls.needed(nodes, True)})
+        if cells and r.random() < 0.08:
+            cells.remove(r.choice(cells))
+        columns, spans = load_calls.pattern(cells, rows, r.choice([0, 0, 1, 3]))
+        return columns, spans[:-1] if r.random() < 0.03 else spans
+
+    def runs(self, length):
+        """Runs in any order, one of them for a block of so many rows; its number; how many rows the buffer has."""
+        r = self.r
+        sizes = [r.choice([0, 1, 2, 5]) for _ in range(r.randrange(4))]
+        own = r.randrange(len(sizes) + 1)
+        sizes.insert(own, max(0, length + r.choice([0, 0, 0, 0, 0, 1, 2, 3, -1])))
+        made, end = [], 0
+        for size in sizes:
+            end += r.choice([0, 0, 0, 1, 3])
+            made.append((end, size))
+            end += size
+        block = made[own]
+        if r.random() < 0.3:
+            made.append((r.randrange(end + 1), 0))
+        r.shuffle(made)
+        return made, made.index(block), end + r.choice([0, 0, 1, 4])
+
+    def damage_runs(self, runs, own, rows):
+        """Runs that overlap or leave the buffer, or a block without a run. Answers the block's number."""
+        r = self.r
+        at = r.randrange(len(runs))
+        start, size = runs[at]
+        kind = r.randrange(5)
+        if kind == 0:
+            return r.choice([len(runs), len(runs) + 1, self.any_whole()])
+        if kind == 1:
+            runs[at] = r.choice([(start, size + 1), (max(0, start - 1), size + 1)])
+        elif kind == 2:
+            runs.append((r.randrange(rows + 1), r.choice([1, 1, 2])))
+        elif kind == 3:
+            far = 2**64 - 1
+            runs[at] = r.choice([(rows, 1), (rows, 0), (rows + 1, 0), (start, rows - start + 1), (start, far), (start, far - start),
+                                 (start, far - start + 1), (far, 0), (far, 1), (far, far), (2**63, 2**63)])
+        else:
+            runs.append((self.any_whole(), self.any_whole()))
+        return own
+
+    def load_bank(self, block):
+        r = self.r
+        count = self.bank_count()
+        columns, spans = self.bank_matrix(count)
+        runs, own, rows = self.runs(len(spans))
+        if r.random() < 0.15:
+            own = self.damage_runs(runs, own, rows)
+        if r.random() < 0.06:
+            rows = max(0, rows - r.choice([1, 2, rows]))
+            runs = [] if not block and r.random() < 0.5 else runs
+        values = self.contents(len(columns))
+        if r.random() < 0.08:
+            self.damage_matrix(columns, spans, values)
+        kind = self.load_kind(None) if r.random() < 0.95 else "tran:" + number(0.5)
+        head = "loadblock %d %d" % (own, count) if block else "loadbridge %d" % count
+        self.add("%s %s %s %s %s %s %s" % (head, pairs(runs), kind, numbers(self.contents(rows)), wholes(columns), pairs(spans), numbers(values)))
+
+    def sure_device(self, first, stage=3):
+        """A device that is most often accepted, evaluated or stopped at an earlier stage."""
+        r = self.r
+        self.usual = True
+        self.card(0)
+        self.geometry(0)
+        four = [r.randrange(self.size) if r.random() < 0.85 else None for _ in range(4)]
+        if stage > 0:
+            self.add("scale " + number(min(max(self.tnom, 200.0), 500.0)))
+        if stage > 1:
+            self.nodes = four + [first, first + 1]
+            self.add("bind %s %d" % (" ".join("-" if n is None else str(n) for n in four), first))
+        for _ in range(r.choice([1, 1, 2]) if stage > 2 else 0):
+            x = numbers([r.uniform(-1, 1) * r.choice([0.3, 1, 3, 6]) for _ in range(first + 2)])
+            kind, limiter = r.choice(["tran", "tran", "dc"]), r.choice(["lim", "nolim"])
+            self.add("eval %s %s %s %s %s %s" % (kind, number(r.uniform(250, 400)), number(1e-12), limiter, self.method(), x))
+            if r.random() < 0.5:
+                self.add("commit " + x)
+
+    def fill_bank(self):
+        """Devices with common outer nodes and inner nodes of their own, or common ones too, and loads of them."""
+        r = self.r
+        self.bank = {}
+        self.size, self.nodes = r.choice([1, 2, 3, 4, 6]), []
+        count = r.choice([1, 2, 2, 3, 3, 4, 6])
+        apart, early = r.choice([0, 1, 2, 2]), r.randrange(count) if r.random() < 0.12 else None
+        for at in range(count):
+            self.sure_device(self.size + apart * at, r.randrange(3) if at == early else 3)
+            self.put(at)
+        if r.random() < 0.06:
+            for at in range(count, 64):
+                self.put(at)
+        for _ in range(r.choice([3, 6, 12])):
+            self.load_bank(r.random() < 0.5)
+            if r.random() < 0.1:
+                self.put(r.randrange(count))
+
     def damage_matrix(self, columns, spans, values):
         r = self.r
         kind = r.randrange(6)
@@ -519,7 +647,7 @@ class Script:
         """Lists and lines at the format's limits."""
         r = self.r
         n = r.choice([4095, 4096, 4097])
-        kind = r.randrange(8)
+        kind = r.randrange(10)
         if kind == 0:
             self.add("commit " + ",".join(["nan"] * n), False)
         elif kind == 1:
@@ -537,6 +665,10 @@ class Script:
             slices = ["7"] * 3
             slices[r.randrange(3)] = ",".join(["0"] * n)
             self.add("cells " + " ".join(slices), False)
+        elif kind == 7:
+            self.add("loadblock %d 0 %s dc %s - - -" % (n - 1, ",".join(["1:0"] * n), number(-0.0)), False)
+        elif kind == 8:
+            self.add("loadbridge 0 - dc %s %s - %s" % tuple(",".join([w] * r.choice([n, 4096])) for w in ("nan", "7", "nan")), False)
         else:
             self.add("eval dc %s %s nolim none %s" % (number(300.0), number(0.0), ",".join(["nan"] * n)), False)
 
@@ -545,6 +677,7 @@ class Script:
         chosen = {"eval": 30, "load": 24, "resolve": 5, "loadresolved": 16, "commit": 12, "noise": 6, "reactances": 4, "scale": 4, "geometry": 1,
                   "bind": 1, "call": 6, "damaged_line": 3}
         chosen.update(zip(self.layouts, (2, 8)))
+        chosen.update(zip(self.bridges, (2, 3, 3)))
         getattr(self, r.choices(list(chosen), list(chosen.values()))[0])()
 
     def reactances(self):
@@ -556,10 +689,10 @@ class Script:
         self.size, self.nodes = 4, []
         if r.random() < 0.03:
             self.add("reset")
-            self.exact, self.tnom = False, 300.15
+            self.exact, self.tnom, self.bank = False, 300.15, {}
             for _ in range(r.randrange(5)):
                 calls = ["eval", "load", "resolve", "loadresolved", "commit", "noise", "reactances", "scale", "geometry", "bind"]
-                getattr(self, r.choice(calls + self.layouts))()
+                getattr(self, r.choice(calls + self.layouts + self.bridges))()
         if r.random() < 0.3:
             self.card(0.05)
         self.card(0)
@@ -606,6 +739,8 @@ class Script:
                 self.long_line()
             if self.r.random() < 0.02:
                 self.lines.append(self.r.choice(["", "   ", "# a comment", "#", " # not a comment"]))
+            if self.bridges and self.r.random() < 0.25:
+                self.fill_bank()
             self.device()
         return self.lines
 
@@ -634,6 +769,7 @@ def fixed():
     """Lists that were thought out for one part each."""
     yield from ["reset", *elementary_calls.calls(), *temperature_calls.calls()]
     yield from ["reset", *setup_calls.calls(), *load_calls.calls(), *resolved_calls.calls(), *layout_calls.calls()]
+    yield from bridge_calls.calls()
 
 
 def curve(seed, count):

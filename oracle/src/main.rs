@@ -6,6 +6,7 @@
 include!(concat!(env!("OUT_DIR"), "/modules.rs"));
 
 mod arithmetic;
+mod bridge;
 mod curve;
 mod format;
 mod functions;
@@ -16,6 +17,7 @@ mod runner;
 use std::io::{BufRead, Write};
 use std::panic::{catch_unwind, AssertUnwindSafe};
 
+use bridge::PLACES;
 use format::{bytes, column, list, method, node, number, pair, split_at_mark, whole};
 use layout::Lent;
 use rows::{Keys, Matrix};
@@ -61,6 +63,18 @@ fn load_kind(word: &[u8]) -> Option<Option<f64>> {
     Some(Some(number(word.strip_prefix(b"tran:")?)?))
 }
 
+/// The words of a load of several devices: as many as can be placed, or one more.
+fn bridge_load(words: &[&[u8]]) -> Option<bridge::Load> {
+    let [count, runs, kind, rhs, columns, rows, values] = words else { return None };
+    Some(bridge::Load {
+        count: whole(count).filter(|n| *n <= PLACES as u64 + 1)? as usize,
+        runs: list(runs, pair)?,
+        alpha: load_kind(kind)?,
+        rhs: list(rhs, number)?,
+        matrix: Matrix { columns: list(columns, column)?, rows: list(rows, pair)?, values: list(values, number)? },
+    })
+}
+
 /// The answer of a command, or None where it is not understood.
 fn answer(runner: &mut Runner, words: &[&[u8]]) -> Option<String> {
     let made: Answer = match words {
@@ -95,6 +109,9 @@ fn answer(runner: &mut Runner, words: &[&[u8]]) -> Option<String> {
         [b"loadresolved", kind, rhs, values] => {
             runner.load_resolved(load_kind(kind)?, list(rhs, number)?, list(values, number)?)?
         }
+        [b"place", at] => runner.place(whole(at).filter(|n| *n < PLACES as u64)? as usize),
+        [b"loadblock", block, words @ ..] => runner.bank.load(Some(whole(block)?), bridge_load(words)?),
+        [b"loadbridge", words @ ..] => runner.bank.load(None, bridge_load(words)?),
         [b"commit", x] => runner.commit(&list(x, number)?),
         [b"noise", kelvin, freq] => runner.noise(number(kelvin)?, number(freq)?),
         [b"reactances"] => runner.reactances(),

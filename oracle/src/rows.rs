@@ -3,7 +3,8 @@
 //! Each call's function goes through its rows in the order of their numbers, so that the lowest that applies is the one answered. A row
 //! that speaks of something that does not exist yet does not apply. Of the Rust it takes only what the paper points to: the `MOSFET`
 //! list, `scaled_phi` and `scaled_junction_potential`, and the device's nodes, cells and capacitances. The rows of the number of extra
-//! nodes, of a layout of cells, of a lookup of them and of a load by them are not the paper's but those of docs/USING.md.
+//! nodes, of a layout of cells, of a lookup of them and of a load by them are not the paper's but those of docs/USING.md. Row 14 is
+//! document 02's and comes before the others.
 
 use crate::device::{Discretisation, NodeId};
 use crate::mosfet1::inside::View;
@@ -285,17 +286,55 @@ fn bad_alpha(d: &View, alpha: Option<f64>) -> bool {
     alpha.is_some_and(|a| !d.has_step && !inside(a, 1.0, 1e16))
 }
 
+/// Row 8 of a load into so many entries.
+fn beyond_slices(d: &View, entries: usize, matrix: &Matrix) -> bool {
+    beyond(&d.nodes, entries) || beyond(&d.nodes, matrix.rows.len())
+}
+
+/// Row 13: a needed cell is missing.
+fn lacks_cells(d: &View, alpha: Option<f64>, matrix: &Matrix) -> bool {
+    d.pairs.into_iter().chain(of_branches(d, alpha.is_some())).any(|cell| matrix.lacks(&cell))
+}
+
 /// `alpha` is None for a direct-current load.
 pub fn load(stage: Stage, device: Option<&View>, alpha: Option<f64>, rhs: &[f64], matrix: &Matrix) -> Row {
     let bound = device.filter(|_| stage >= Stage::Bound);
     if let Some(d) = bound {
-        row(8, beyond(&d.nodes, rhs.len()) || beyond(&d.nodes, matrix.rows.len()))?;
+        row(8, beyond_slices(d, rhs.len(), matrix))?;
     }
     row(10, stage < Stage::Evaluated)?;
     let d = bound.expect("row 10");
     row(11, bad_alpha(d, alpha))?;
     row(12, matrix.malformed())?;
-    row(13, d.pairs.into_iter().chain(of_branches(d, alpha.is_some())).any(|cell| matrix.lacks(&cell)))
+    row(13, lacks_cells(d, alpha, matrix))
+}
+
+/// Whether two runs share a row of the buffer or one leaves it. Each run takes its rows; an empty one takes none.
+fn runs_collide(runs: &[(u64, u64)], length: usize) -> bool {
+    let mut taken = vec![false; length];
+    for (start, size) in runs {
+        let Some(end) = start.checked_add(*size).filter(|end| *end <= length as u64) else { return true };
+        let rows = &mut taken[*start as usize..end as usize];
+        if rows.contains(&true) {
+            return true;
+        }
+        rows.fill(true);
+    }
+    false
+}
+
+/// Row 14 of a load of so many devices; `block` is the number of the block's run, None for the whole bridge.
+pub fn blocks(count: usize, runs: &[(u64, u64)], block: Option<u64>, length: usize) -> Row {
+    row(14, count > 64 || runs_collide(runs, length) || block.is_some_and(|k| k >= runs.len() as u64))
+}
+
+/// The rows behind 14, each of them asked of all devices before the next. The devices are loaded into so many entries.
+pub fn loads(devices: &[(Stage, View)], alpha: Option<f64>, entries: usize, matrix: &Matrix) -> Row {
+    row(8, devices.iter().any(|(stage, d)| *stage >= Stage::Bound && beyond_slices(d, entries, matrix)))?;
+    row(10, devices.iter().any(|(stage, _)| *stage < Stage::Evaluated))?;
+    row(11, devices.iter().any(|(_, d)| bad_alpha(d, alpha)))?;
+    row(12, matrix.malformed())?;
+    row(13, devices.iter().any(|(_, d)| lacks_cells(d, alpha, matrix)))
 }
 
 /// What a lookup keeps: the outer drain and source, drain, gate, source and bulk by their rows; how many rows and values the pattern

@@ -1,8 +1,10 @@
 //! One device, its stage, and the calls of a script on it.
 
 use std::collections::BTreeSet;
+use std::slice::from_mut;
 use std::sync::Arc;
 
+use crate::bridge::{empty_device, Bank};
 use crate::device::{Device, Discretisation, EvalFlags, NodeId, SimContext};
 use crate::format::Written;
 use crate::layout::{Layout, Lent};
@@ -18,6 +20,8 @@ pub struct Runner {
     /// The cells of the last accepted lookup, and the pattern that they were looked up in.
     cells: Option<Cells>,
     pattern: Matrix,
+    /// Devices held by number. `place` puts them there.
+    pub bank: Bank,
 }
 
 /// What an evaluation is handed besides the voltages.
@@ -48,7 +52,7 @@ fn branch(pos: NodeId, neg: NodeId, value: f64) -> String {
 
 impl Runner {
     pub fn new() -> Runner {
-        Runner { device: None, stage: Stage::NoDevice, cells: None, pattern: Matrix::default() }
+        Runner { device: None, stage: Stage::NoDevice, cells: None, pattern: Matrix::default(), bank: Bank::new() }
     }
 
     fn view(&self) -> Option<View> {
@@ -126,7 +130,7 @@ impl Runner {
             assert_eq!(refused, Ok(()), "a load on the cells laid out");
             let device = self.accepted(Stage::Evaluated);
             load_residual(device, alpha, &mut rhs);
-            loaded(device, alpha, &matrix);
+            loaded(from_mut(device), alpha, &matrix);
             let made = made_cells(device, alpha, layout.rows);
             assert!(made.is_subset(&layout.cells), "a cell that is not laid out");
             let every_branch = alpha.is_some() && device.view().branches.iter().all(|(_, _, c)| *c != 0.0);
@@ -153,7 +157,7 @@ impl Runner {
         rows::load(self.stage, self.view().as_ref(), alpha, &rhs, &matrix)?;
         let device = self.accepted(Stage::Evaluated);
         load_residual(device, alpha, &mut rhs);
-        matrix.values = loaded(device, alpha, &matrix);
+        matrix.values = loaded(from_mut(device), alpha, &matrix);
         Ok(format!("load {} {}", rhs[..].written(), matrix.values[..].written()))
     }
 
@@ -188,9 +192,16 @@ impl Runner {
         load_residual(device, alpha, &mut rhs);
         self.pattern.values = values;
         let by_places = loaded_at(device, alpha, &cells.kept(&device.view()), &self.pattern.values);
-        let by_pattern = loaded(device, alpha, &self.pattern);
+        let by_pattern = loaded(from_mut(device), alpha, &self.pattern);
         assert_eq!(by_places[..].written(), by_pattern[..].written(), "the kept places and their pattern");
         Ok(format!("loadresolved {} {}", rhs[..].written(), by_places[..].written()))
+    }
+
+    /// The present device with its stage, copied to the bank. Before any card it is that of an empty one.
+    pub fn place(&mut self, at: usize) -> Answer {
+        let device = self.device.as_ref().map_or_else(empty_device, Mosfet1::copied);
+        self.bank.place(at, device, self.stage.max(Stage::Card));
+        Ok("place".to_string())
     }
 
     pub fn commit(&mut self, x: &[f64]) -> Answer {
@@ -218,7 +229,7 @@ impl Runner {
     }
 }
 
-fn load_residual(device: &Mosfet1, alpha: Option<f64>, rhs: &mut [f64]) {
+pub fn load_residual(device: &Mosfet1, alpha: Option<f64>, rhs: &mut [f64]) {
     match alpha {
         None => device.load_residual(rhs),
         Some(a) => device.load_residual_tran(rhs, a),
@@ -259,20 +270,20 @@ fn made_cells(device: &Mosfet1, alpha: Option<f64>, rows: usize) -> BTreeSet<(us
     (0..rows).flat_map(cells_of).collect()
 }
 
-/// The matrix's values after the load. The Rust writes a cell by searching its row, or at a place that it found once for a pattern:
-/// both ways are taken and must give the same.
-fn loaded(device: &mut Mosfet1, alpha: Option<f64>, matrix: &Matrix) -> Vec<f64> {
-    let searched = loaded_once(device, alpha, matrix, false);
-    let resolved = loaded_once(device, alpha, matrix, true);
+/// The matrix's values after the devices' loads, one after another. The Rust writes a cell by searching its row, or at a place that it
+/// found once for a pattern: both ways are taken and must give the same.
+pub fn loaded(devices: &mut [Mosfet1], alpha: Option<f64>, matrix: &Matrix) -> Vec<f64> {
+    let searched = loaded_once(devices, alpha, matrix, false);
+    let resolved = loaded_once(devices, alpha, matrix, true);
     assert_eq!(searched[..].written(), resolved[..].written(), "two ways to a cell");
     searched
 }
 
-fn loaded_once(device: &mut Mosfet1, alpha: Option<f64>, matrix: &Matrix, resolve: bool) -> Vec<f64> {
+fn loaded_once(devices: &mut [Mosfet1], alpha: Option<f64>, matrix: &Matrix, resolve: bool) -> Vec<f64> {
     let columns = matrix.all_columns();
     let pattern = Arc::new(pattern_of(&columns));
     if resolve {
-        device.resolve_cells(&pattern);
+        devices.iter_mut().for_each(|device| device.resolve_cells(&pattern));
     }
     let mut made = MnaMatrix::with_pattern(columns.len(), pattern);
     for (r, (offset, _)) in matrix.rows.iter().enumerate() {
@@ -280,7 +291,7 @@ fn loaded_once(device: &mut Mosfet1, alpha: Option<f64>, matrix: &Matrix, resolv
             made.a[r][*column as usize] = matrix.values[*offset as usize + k];
         }
     }
-    load_jacobian(device, alpha, &mut made);
+    devices.iter().for_each(|device| load_jacobian(device, alpha, &mut made));
     let mut values = matrix.values.clone();
     for (r, (offset, length)) in matrix.rows.iter().enumerate() {
         let (cols, row) = made.a[r].entries();
