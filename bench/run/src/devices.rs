@@ -47,10 +47,20 @@ impl<M: Model> System<M> {
         self.devices.iter().for_each(|device| device.load(&mut self.rhs, &mut self.matrix));
     }
 
-    /// An iteration as a simulator makes it: cleared, then device by device evaluated and loaded.
-    pub fn iterate(&mut self, x: &[f64]) {
+    fn clear(&mut self) {
         self.rhs.fill(0.0);
         self.matrix.clear();
+    }
+
+    /// Cleared, then loaded.
+    pub fn reload(&mut self) {
+        self.clear();
+        self.load();
+    }
+
+    /// An iteration as a simulator makes it: cleared, then device by device evaluated and loaded.
+    pub fn iterate(&mut self, x: &[f64]) {
+        self.clear();
         for device in &mut self.devices {
             device.eval(x);
             device.load(&mut self.rhs, &mut self.matrix);
@@ -146,7 +156,8 @@ rust_model!(rust_port, with_port);
 
 pub mod port {
     use super::*;
-    use mivtolgya::{Cells, Conditions, ConditionsRecord, Device, Load, Matrix, Method, Node, Polarity};
+    use mivtolgya::{load_bridge, load_bridge_resolved};
+    use mivtolgya::{Cells, Conditions, ConditionsRecord, Device, Load, Matrix, Method, Node, Polarity, Runs};
 
     /// Values with their pattern.
     pub struct Laid {
@@ -154,6 +165,12 @@ pub mod port {
         columns: Vec<u32>,
         offsets: Vec<usize>,
         lengths: Vec<usize>,
+    }
+
+    impl Laid {
+        fn matrix(&mut self) -> Matrix<'_> {
+            Matrix { values: &mut self.values, columns: &self.columns, offsets: &self.offsets, lengths: &self.lengths }
+        }
     }
 
     impl Store for Laid {
@@ -209,8 +226,7 @@ pub mod port {
         }
 
         fn load(&self, rhs: &mut [f64], m: &mut Laid) {
-            let matrix = Matrix { values: &mut m.values, columns: &m.columns, offsets: &m.offsets, lengths: &m.lengths };
-            self.device.load(self.kind, rhs, matrix).unwrap();
+            self.device.load(self.kind, rhs, m.matrix()).unwrap();
         }
     }
 
@@ -229,6 +245,53 @@ pub mod port {
 
         fn load(&self, rhs: &mut [f64], m: &mut Laid) {
             self.one.device.load_resolved(self.one.kind, &self.cells, rhs, &mut m.values).unwrap();
+        }
+    }
+
+    /// Devices in a row, which one call loads, of one case.
+    pub struct Bridge {
+        devices: Vec<Device>,
+        cells: Vec<Cells>,
+        conditions: ConditionsRecord,
+        kind: Load,
+        starts: Vec<usize>,
+        counts: Vec<usize>,
+        matrix: Laid,
+        pub rhs: Vec<f64>,
+    }
+
+    impl Bridge {
+        pub fn new(columns: &Columns, all: &[(&Case, Terminals)], starts: Vec<usize>, counts: Vec<usize>) -> Bridge {
+            let System { devices, matrix, rhs } = System::<Resolved>::new(columns, all);
+            let Searching { conditions, kind, .. } = devices[0].one;
+            let (devices, cells) = devices.into_iter().map(|each| (each.one.device, each.cells)).unzip();
+            Bridge { devices, cells, conditions, kind, starts, counts, matrix, rhs }
+        }
+
+        pub fn eval(&mut self, x: &[f64]) {
+            for device in &mut self.devices {
+                device.eval_at(x, &self.conditions).unwrap();
+            }
+        }
+
+        /// Both slices are filled with what a load must not keep.
+        pub fn spoil(&mut self) {
+            self.rhs.fill(f64::INFINITY);
+            self.matrix.values.fill(f64::INFINITY);
+        }
+
+        pub fn load(&mut self) {
+            let runs = Runs { starts: &self.starts, counts: &self.counts };
+            load_bridge(&self.devices, runs, self.kind, &mut self.rhs, self.matrix.matrix()).unwrap();
+        }
+
+        pub fn load_resolved(&mut self) {
+            let runs = Runs { starts: &self.starts, counts: &self.counts };
+            load_bridge_resolved(&self.devices, runs, self.kind, &self.cells, &mut self.rhs, &mut self.matrix.values).unwrap();
+        }
+
+        pub fn values(&self) -> Vec<f64> {
+            self.matrix.values()
         }
     }
 }

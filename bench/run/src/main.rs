@@ -1,5 +1,6 @@
 //! The port through its library against the Rust original, with the C library's functions and with the port's, and against ngspice
 //! where it is installed, on the same inputs in one run. Prints nanoseconds, best of many passes, and ratios.
+mod bridge;
 mod cases;
 mod devices;
 mod functions;
@@ -7,6 +8,7 @@ mod spice;
 
 use cases::{columns, points, Case, CASES, NODES, POINTS};
 use devices::{port, rust_c, rust_port, Columns, Model, System, Terminals};
+use std::env;
 use std::hint::black_box;
 use std::time::Instant;
 
@@ -59,7 +61,7 @@ fn timed<M: Model>(case: &Case, xs: &[Vec<f64>]) -> Times {
     Times { both, eval, load: timed_load(&mut system, passes, calls) }
 }
 
-fn same_bits(a: &[f64], b: &[f64]) -> bool {
+pub fn same_bits(a: &[f64], b: &[f64]) -> bool {
     a.len() == b.len() && a.iter().zip(b).all(|(x, y)| x.to_bits() == y.to_bits() || (x.is_nan() && y.is_nan()))
 }
 
@@ -119,9 +121,12 @@ fn growth() {
     }
 }
 
+const TABLES: [(&str, fn()); 5] =
+    [("loads", loads), ("growth", growth), ("bridge", bridge::table), ("ngspice", spice::table), ("functions", functions::table)];
+
+/// All tables, or the one that is named.
 fn main() {
-    loads();
-    growth();
-    spice::table();
-    functions::table();
+    let word = env::args().nth(1);
+    assert!(word.iter().all(|word| TABLES.iter().any(|(name, _)| name == word)), "no such table");
+    TABLES.iter().filter(|(name, _)| word.iter().all(|word| word == name)).for_each(|(_, table)| table());
 }
