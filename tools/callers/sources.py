@@ -147,7 +147,7 @@ def unknown_tag():
     found = set()
     for path in glob.glob("crates/record_*/specs/*.antt"):
         found.update(re.findall(r"refusal = (\d+)|[rR]efused\w* (?:r )?(\d+)\)", code(path)))
-    calls = code("crates/mivtolgya_bridge/specs/Calls.antt")
+    calls = code("crates/bridge_calls/specs/Calls.antt")
     found.update(("", number) for number in re.findall(r"^ +cond \(good\w+ [^()]*\) \(number .*\) (\d+)$", calls, re.M))
     (number,) = {int(n) for groups in found for n in groups if n} - {0}
     return number
