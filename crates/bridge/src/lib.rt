@@ -2,6 +2,7 @@
 ghost use mathlib.Core.Path.{_≡_};
 ghost use lib.ListN.{length, drop};
 ghost use Rattle.bridge.specs.Runs.{anyOf, leaves, overlap, anyOverlap, runsOf, badRuns, bridgeRefused, blockRefused};
+ghost use Rattle.bridge.specs.Steps.{rising};
 
 // Two runs, each by its first row and its count, share a row. No end is worked out, so that none can overflow.
 fn overlap(a: usize, n: usize, b: usize, m: usize) -> bool
@@ -72,6 +73,26 @@ fn any_leaves(starts: &[usize], counts: &[usize], rows: usize) -> bool
     false
 }
 
+// Each run ends where the next one begins, or before, and the last one inside so many rows. Then no run leaves the rows and no two overlap,
+// and the usual runs need this one pass, where `any_overlap` compares each run with each. They are asked from the last to the first: each
+// may end at the first row of the one behind it, so that no end is worked out.
+fn rising(starts: &[usize], counts: &[usize], rows: usize) -> bool
+    requires { ⌜ length (now starts) ≡ length (now counts) ⌝ }
+    ensures { λ r. ⌜ r ≡ rising rows (runsOf (now (starts .entry)) (now (counts .entry))) ⌝ }
+{
+    let mut limit = rows;
+    let mut i = starts.len();
+    while i > 0 {
+        i -= 1;
+        let start = starts[i];
+        if leaves(start, counts[i], limit) {
+            return false;
+        }
+        limit = start;
+    }
+    true
+}
+
 // Row 14 of a bridge's load, of so many devices into a right-hand side of so many rows.
 pub fn bridge_refused(starts: &[usize], counts: &[usize], rows: usize, devices: usize) -> bool
     ensures { λ r. ⌜ r ≡ bridgeRefused (now (starts .entry)) (now (counts .entry)) rows devices ⌝ }
@@ -81,6 +102,9 @@ pub fn bridge_refused(starts: &[usize], counts: &[usize], rows: usize, devices: 
     }
     if starts.len() != counts.len() {
         return true;
+    }
+    if rising(starts, counts, rows) {
+        return false;
     }
     if any_leaves(starts, counts, rows) {
         return true;
