@@ -1,14 +1,13 @@
 -- A bank's devices with their cells, read one by one; a bank whose tags are all known.
 use mathlib.Core.Path.{_≡_, refl, sym, ap, _∙_, subst}
-use mathlib.Core.Bool.{Bool, true, false, cond, not, _&&_}
+use mathlib.Core.Bool.{Bool, true, false, cond, not, _&&_, _||_}
 use mathlib.Core.List.{List, [], _∷_}
 use Prim.Native.Nat.{ℕ, suc, _≤_, _<_}
 use native.Mathlib.Omega.{arith}
-use lib.Dec.{T, leb, ltb}
+use lib.Dec.{T, leb}
 use lib.ListN.{length, getD, drop, drop-of-length-le}
 use lib.Seq.{drop-cons}
 use lib.Ieee.{Float}
-use borrow.Author.Tests.{ltb-true, ltb-false}
 use Rattle.from_record.specs.Devices.{deviceFrom}
 use Rattle.from_record.specs.Tags.{goodTags}
 use Rattle.record_loading.specs.Load.{kindFrom, goodLoad}
@@ -29,30 +28,9 @@ pub celled-here : (bank : List (List Float)) (cells : List (List ℕ)) (j : ℕ)
 unfolding celledOf
 celled-here bank cells j h g = rw (drop-cons bank j [] h, drop-cons cells j [] g) refl
 
-no-cells : (ws : List (List Float)) → celledOf ws [] ≡ []
-unfolding celledOf
-no-cells [] = refl
-no-cells (w ∷ ws) = refl
-
 pub no-device-left : (bank : List (List Float)) (cells : List (List ℕ)) (i : ℕ) → length bank ≤ i → celledOf (drop i bank) (drop i cells) ≡ []
 unfolding celledOf
 no-device-left bank cells i h = ap (λ (ws : List (List Float)). celledOf ws (drop i cells)) (drop-of-length-le bank h)
-
-pub no-cells-left : (bank : List (List Float)) (cells : List (List ℕ)) (i : ℕ) → length cells ≤ i → celledOf (drop i bank) (drop i cells) ≡ []
-no-cells-left bank cells i h = ap (celledOf (drop i bank)) (drop-of-length-le cells h) ∙ no-cells (drop i bank)
-
--- as many as have a list
-pub record None (bank : List (List Float)) (cells : List (List ℕ)) (i : ℕ) : Type 0 where
-  pub among-devices : i ≤ length bank
-  pub among-lists : i ≤ length cells
-  pub none : celledOf (drop i bank) (drop i cells) ≡ []
-
-pub fewest : (bank : List (List Float)) (cells : List (List ℕ)) (i : ℕ) → i ≡ cond (ltb (length cells) (length bank)) (length cells) (length bank) → None bank cells i
-fewest bank cells i e = go (ltb (length cells) (length bank)) refl e
-  where
-    go : (b : Bool) → ltb (length cells) (length bank) ≡ b → i ≡ cond b (length cells) (length bank) → None bank cells i
-    go true q e = let l = ltb-true (length cells) (length bank) q in record { among-devices = omega arith; among-lists = omega arith; none = no-cells-left bank cells i (omega arith) }
-    go false q e = let l = ltb-false (length cells) (length bank) q in record { among-devices = omega arith; among-lists = omega arith; none = no-device-left bank cells i (omega arith) }
 
 -- ---- tags
 unless-not : (b : Bool) → not b ≡ true → b ≡ false
@@ -62,6 +40,23 @@ unless-not false e = refl
 not-not : (b : Bool) → not b ≡ false → b ≡ true
 not-not true e = refl
 not-not false e = absurd (subst T e tt)
+
+tags-or : (a b : Bool) → not (a || b) ≡ true → not b ≡ true
+tags-or true b e = absurd (subst T (sym e) tt)
+tags-or false b e = e
+
+-- the tags of the records behind the first
+pub rest-good : (w : List Float) (ws : List (List Float)) → bankGood (w ∷ ws) ≡ true → bankGood ws ≡ true
+unfolding bankGood anyOf
+rest-good w ws e = tags-or (not (goodTags (recordOf w))) (anyOf (λ (w : List Float). not (goodTags (recordOf w))) ws) e
+
+tags-and : (a b : Bool) → a ≡ true → not b ≡ true → not (not a || b) ≡ true
+tags-and a b e f = rw e f
+
+-- those of a record in front of them
+pub one-more-good : (w : List Float) (ws : List (List Float)) → goodTags (recordOf w) ≡ true → bankGood ws ≡ true → bankGood (w ∷ ws) ≡ true
+unfolding bankGood anyOf
+one-more-good w ws e f = tags-and (goodTags (recordOf w)) (anyOf (λ (w : List Float). not (goodTags (recordOf w))) ws) e f
 
 module _ (bank : List (List Float)) (t : ℕ) (tags : bankGood bank ≡ true) (kind : leb t 1 ≡ true) (j : ℕ) (h : j < length bank) where
   pub load-good : goodLoad (recordOf (getD bank j [])) t ≡ true

@@ -1,3 +1,4 @@
 pub mod Celled
+pub mod Numbers
 pub mod Rows
 pub mod InTurn

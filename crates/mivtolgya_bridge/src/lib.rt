@@ -157,7 +157,7 @@ pub extern "C" fn mivtolgya_load_block(
     0
 }
 
-// The number of a load of the whole bridge by cells. The slices are only measured.
+// The number of a load of the whole bridge by cells. Where no device is refused by itself, every tag is known and need not be asked again.
 fn resolved_number(
     bank: &[[f64; 113]],
     starts: &[usize],
@@ -165,22 +165,24 @@ fn resolved_number(
     transient: u64,
     alpha: f64,
     cells: &[[usize; 37]],
-    rhs: &mut [f64],
-    values: &mut [f64],
+    rows: usize,
+    values: usize,
 ) -> u64
-    ensures { λ o. ⌜ (o ≡ resolvedBridgeNumber (now (bank .entry)) (now (starts .entry)) (now (counts .entry)) transient alpha (now (cells .entry)) (length (now (rhs .entry))) (length (now (values .entry))))
-        × ((now (rhs .exit) ≡ now (rhs .entry)) × (now (values .exit) ≡ now (values .entry))) ⌝ }
+    ensures { λ o. ⌜ o ≡ resolvedBridgeNumber (now (bank .entry)) (now (starts .entry)) (now (counts .entry)) transient alpha (now (cells .entry)) rows values ⌝ }
 {
-    if !device_bank::good_bank(bank) {
-        return 100;
+    let number = bank_resolved::lowest_number(bank, transient, alpha, cells, rows, values);
+    if number != 0 {
+        if !device_bank::good_bank(bank) {
+            return 100;
+        }
     }
     if 1 < transient {
         return 100;
     }
-    if bridge::bridge_refused(starts, counts, rhs.len(), bank.len()) {
+    if bridge::bridge_refused(starts, counts, rows, bank.len()) {
         return 14;
     }
-    bank_resolved::lowest_row(bank, transient, alpha, cells, rhs, values)
+    number
 }
 
 // The load of the whole bridge by the cells that `mivtolgya_resolve` answered for each of its devices, for the loop: no pattern, no search.
@@ -199,7 +201,16 @@ pub extern "C" fn mivtolgya_load_bridge_resolved(
         × ((now (rhs .exit) ≡ resolvedBridgeSide (now (bank .entry)) (now (starts .entry)) (now (counts .entry)) transient alpha (now (cells .entry)) (now (rhs .entry)) (now (values .entry)))
         × (now (values .exit) ≡ resolvedBridgeMatrix (now (bank .entry)) (now (starts .entry)) (now (counts .entry)) transient alpha (now (cells .entry)) (now (rhs .entry)) (now (values .entry)))) ⌝ }
 {
-    let number = resolved_number(bank, starts, counts, transient, alpha, cells, rhs, values);
+    let number = resolved_number(
+        bank,
+        starts,
+        counts,
+        transient,
+        alpha,
+        cells,
+        rhs.len(),
+        values.len(),
+    );
     if number != 0 {
         return number;
     }

@@ -8,8 +8,8 @@ use lib.Ieee.{Float}
 use Rattle.stamps.specs.Stamps.{jacPairsOf}
 use Rattle.places.specs.Places.{nodesOf, terminalsAt}
 use Rattle.resolved_rows.specs.LoadResolved.{numbersFrom}
-use Rattle.resolved_rows.specs.ByNumbers.{pairsStored, branchesStored}
-use Rattle.resolved_rows.proofs.Known.{pairs-held, branches-held}
+use Rattle.resolved_rows.specs.ByNumbers.{pairsStored, branchesStored, nodesAt}
+use Rattle.resolved_rows.proofs.Known.{pairs-held, branches-held, nodes-held}
 use Rattle.record.specs.declared.DeviceRecord.{DeviceRecord}
 use Rattle.from_record.specs.Devices.{deviceFrom}
 use Rattle.record_loading.specs.Load.{kindFrom, goodLoad}
@@ -33,3 +33,9 @@ at-one r alpha w rows n room e = branches-held (deviceFrom r) alpha w rows n (om
 pub branches-known : (r : DeviceRecord) (t : ℕ) (alpha : Float) (w : List ℕ) (rows n : ℕ) → rows < 2 ^ 64 → t ≡ 1 → resolvedNumber r t alpha w rows n ≡ 0
     → branchesStored n (nodesOf (deviceFrom r .terminals)) w (deviceFrom r .charges) ≡ true
 branches-known r t alpha w rows n room one e = at-one r alpha w rows n room (subst (λ (t : ℕ). resolvedNumber r t alpha w rows n ≡ 0) one e)
+
+-- the cells were looked up for the device's nodes
+pub nodes-known : (r : DeviceRecord) (t : ℕ) (alpha : Float) (w : List ℕ) (rows n : ℕ) → rows < 2 ^ 64 → resolvedNumber r t alpha w rows n ≡ 0
+    → nodesAt w ≡ nodesOf (deviceFrom r .terminals)
+unfolding resolvedNumber
+nodes-known r t alpha w rows n room e = nodes-held (deviceFrom r) (kindFrom t alpha) w rows n (omega (arith, room)) (of-device (goodLoad r t) _ e)

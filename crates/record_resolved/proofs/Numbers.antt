@@ -84,7 +84,11 @@ zero-good : (good : Bool) (n : ℕ) → cond good n 100 ≡ 0 → good ≡ true
 zero-good true n e = refl
 zero-good false n e = absurd (omega (arith, e))
 
--- where a load's number is 0, the nodes' tags are known
-pub of-zero : (r : DeviceRecord) (t : ℕ) (alpha : Float) (w : List ℕ) (rows n : ℕ) → resolvedNumber r t alpha w rows n ≡ 0 → goodTerminals (r .terminals) ≡ true
+-- where a load's number is 0, every tag is known
+pub tags-of-zero : (r : DeviceRecord) (t : ℕ) (alpha : Float) (w : List ℕ) (rows n : ℕ) → resolvedNumber r t alpha w rows n ≡ 0 → goodTags r ≡ true
 unfolding resolvedNumber
-of-zero r t alpha w rows n e = of-tags r (tags-of-load r t (zero-good (goodLoad r t) _ e))
+tags-of-zero r t alpha w rows n e = tags-of-load r t (zero-good (goodLoad r t) _ e)
+
+-- those of the nodes among them
+pub of-zero : (r : DeviceRecord) (t : ℕ) (alpha : Float) (w : List ℕ) (rows n : ℕ) → resolvedNumber r t alpha w rows n ≡ 0 → goodTerminals (r .terminals) ≡ true
+of-zero r t alpha w rows n e = of-tags r (tags-of-zero r t alpha w rows n e)

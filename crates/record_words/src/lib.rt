@@ -252,9 +252,41 @@ pub fn record_of(w: &[f64; 113]) -> DeviceRecord
     }
 }
 
-// The same once more, for a second caller: a large function with two callers is not copied into them, and the record then goes through
-// memory, at 20 nanoseconds or more a device.
-pub fn record_again(w: &[f64; 113]) -> DeviceRecord
+// The same once more for each step of a bridge's load by cells: a large function with one caller is copied into it, and of the record
+// only what that step needs is then read. With two callers the record goes through memory, at 20 nanoseconds or more a device.
+pub fn record_for_rows(w: &[f64; 113]) -> DeviceRecord
+    ensures { λ r. ⌜ r ≡ recordOf (now (w .entry)) ⌝ }
+{
+    DeviceRecord {
+        card: card_of(w),
+        geometry: geometry_of(w),
+        scaled: scaled_of(w),
+        terminals: terminals_of(w),
+        point: point_of(w),
+        charges: charges_of(w),
+        histories: histories_of(w),
+        method: method_of(w),
+        stage: whole_at(w, 112),
+    }
+}
+
+pub fn record_for_static(w: &[f64; 113]) -> DeviceRecord
+    ensures { λ r. ⌜ r ≡ recordOf (now (w .entry)) ⌝ }
+{
+    DeviceRecord {
+        card: card_of(w),
+        geometry: geometry_of(w),
+        scaled: scaled_of(w),
+        terminals: terminals_of(w),
+        point: point_of(w),
+        charges: charges_of(w),
+        histories: histories_of(w),
+        method: method_of(w),
+        stage: whole_at(w, 112),
+    }
+}
+
+pub fn record_for_charges(w: &[f64; 113]) -> DeviceRecord
     ensures { λ r. ⌜ r ≡ recordOf (now (w .entry)) ⌝ }
 {
     DeviceRecord {

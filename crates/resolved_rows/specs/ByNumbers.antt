@@ -56,6 +56,18 @@ unfoldable pub allBelow : ℕ → List ℕ → Bool
 allBelow n [] = true
 allBelow n (p ∷ ps) = ltb p n && allBelow n ps
 
+-- the nodes' numbers that the cells w were looked up for
+unfoldable pub nodesAt : List ℕ → Nodes
+nodesAt w = record {
+  «drain_ext» = getD w 0 0;
+  «source_ext» = getD w 1 0;
+  drain = getD w 2 0;
+  gate = getD w 3 0;
+  source = getD w 4 0;
+  bulk = getD w 5 0;
+}
+
+-- they are a device's
 unfoldable pub nodesAre : List ℕ → Nodes → Bool
 nodesAre w t =
     eqb (t .«drain_ext») (getD w 0 0) && eqb (t .«source_ext») (getD w 1 0) && eqb (t .drain) (getD w 2 0)

@@ -33,24 +33,24 @@ loop-holds c =
     let k = kindFrom (s .args .transient) (s .args .alpha) in
     (refl, (refl, (enough-cells (now (s .args .bank)) k (now (s .args .cells)) (length (now (s .args .rhs))) (length (now (s .args .values))) e, (all-passed (now (s .args .bank)) k (now (s .args .cells)) (length (now (s .args .rhs))) (length (now (s .args .values))) e, refl))))
 
-mul-turn : tie.Need-mul-turn Inv-loop μ-loop
-mul-turn c = search needs
+mul-add-device : tie.Need-mul-add-device Inv-loop μ-loop
+mul-add-device c = search needs
 
-shared-slice-element-turn : tie.Need-shared-slice-element-turn Inv-loop μ-loop
-shared-slice-element-turn c = search needs
+shared-slice-element-add-device : tie.Need-shared-slice-element-add-device Inv-loop μ-loop
+shared-slice-element-add-device c = search needs
 
-mul-turn-2 : tie.Need-mul-turn-2 Inv-loop μ-loop
-mul-turn-2 c = omega (arith, c .before .before .loop .inv .1 .1 .0, c .before .before .before .before .before .good .1 .1 .1 .0 .1)
+mul-add-device-2 : tie.Need-mul-add-device-2 Inv-loop μ-loop
+mul-add-device-2 c = omega (arith, c .before .before .loop .inv .1 .1 .0, c .before .before .before .before .before .good .1 .1 .1 .0 .1)
 
-shared-slice-element-turn-2 : tie.Need-shared-slice-element-turn-2 Inv-loop μ-loop
-shared-slice-element-turn-2 c = omega (arith, c .before .before .loop .inv .1 .1 .0)
+shared-slice-element-add-device-2 : tie.Need-shared-slice-element-add-device-2 Inv-loop μ-loop
+shared-slice-element-add-device-2 c = omega (arith, c .before .before .loop .inv .1 .1 .0)
 
-turn-requires : tie.Need-turn-requires Inv-loop μ-loop
-turn-requires c κs =
+add-device-requires : tie.Need-add-device-requires Inv-loop μ-loop
+add-device-requires c κs =
     let l = c .before .before .before .before .before in
     let s = l .before .before .before in
     let e = here-accepted (now (s .args .bank)) (now (s .args .cells)) (s .args .transient) (s .args .alpha) (s .pre .0) (s .pre .1 .0) (l .loop .i) (omega arith) (omega (arith, l .loop .inv .1 .1 .0)) _ _ (l .loop .inv .1 .1 .1 .0) in
-    λ w. rw (l .loop .inv .0, l .loop .inv .1 .0) e
+    rw (l .loop .inv .0, l .loop .inv .1 .0) e
 
 add-i : tie.Need-add-i Inv-loop μ-loop
 add-i c = record { fits = omega (arith, c .before .before .before .before .before .before .before .before .before .before .before .before .before .good .0 .1) }
@@ -71,7 +71,7 @@ loop-again c =
           (
             later-passed (now (s .args .bank)) (now (s .args .cells)) (s .args .transient) (s .args .alpha) (s .pre .0) (s .pre .1 .0) (l .loop .i) (omega arith) (omega (arith, l .loop .inv .1 .1 .0)) _ _ (l .loop .inv .1 .1 .1 .0),
             l .loop .inv .1 .1 .1 .1
-                ∙ one-turn (now (s .args .bank)) (now (s .args .cells)) (s .args .transient) (s .args .alpha) (s .pre .0) (s .pre .1 .0) (l .loop .i) (omega arith) (omega (arith, l .loop .inv .1 .1 .0)) (l .loop .rhs) (l .loop .values) _ _ (t .turn .ensures .1 .0) (t .turn .ensures .1 .1),
+                ∙ one-turn (now (s .args .bank)) (now (s .args .cells)) (s .args .transient) (s .args .alpha) (s .pre .0) (s .pre .1 .0) (l .loop .i) (omega arith) (omega (arith, l .loop .inv .1 .1 .0)) (l .loop .rhs) (l .loop .values) _ _ (t .add-device .ensures .0) (t .add-device .ensures .1),
           ),
         ),
       ),
@@ -96,11 +96,11 @@ add-devices-spec =
     Inv-loop
     μ-loop
     loop-holds
-    mul-turn
-    shared-slice-element-turn
-    mul-turn-2
-    shared-slice-element-turn-2
-    turn-requires
+    mul-add-device
+    shared-slice-element-add-device
+    mul-add-device-2
+    shared-slice-element-add-device-2
+    add-device-requires
     add-i
     loop-less
     loop-again
