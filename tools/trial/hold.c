@@ -10,7 +10,8 @@
 enum { ROWS = 40, SPACE = ROWS * ROWS + 4 * (ROWS + 1), NUMBERS = 102 };
 enum { WORDS = sizeof(mivtolgya_device) / 8, TERMINALS = offsetof(mivtolgya_device, terminals) / 8 };
 enum { CELL_WORDS = sizeof(mivtolgya_cells) / 8 };
-enum { EVAL, RESOLVED, LOAD, COMMIT, RESOLVE, CALLS };
+enum { EVAL, RESOLVED, LOAD, COMMIT, RESOLVE, BRIDGE, CALLS };
+enum { BANK = MIVTOLGYA_MOST_DEVICES + 1, RUNS = 4 };
 
 typedef struct {
     uint32_t columns[SPACE];
@@ -39,12 +40,15 @@ static const range size_ranges[] = {
     {'r', "nrd", 1, 1e-6, 0.1, 10, 1e6}, {'r', "nrs", 1, 1e-6, 0.1, 10, 1e6}};
 
 /* The numbers that each call can give besides 0; each must occur, or the run has not tried it. */
-static const char *const call_names[CALLS] = {"evaluation", "load by cells", "load", "commit", "resolving"};
-static const unsigned may_give[CALLS][7] = {
-    {6, 8, 9, 10, 11, 100}, {8, 10, 11, 12, 13, 100}, {8, 10, 11, 12, 13, 100}, {8, 9, 10, 100}, {8, 10, 12, 13, 100}};
+static const char *const call_names[CALLS] = {"evaluation", "load by cells", "load", "commit", "resolving", "bridge by cells"};
+static const unsigned may_give[CALLS][8] = {{6, 8, 9, 10, 11, 100}, {8, 10, 11, 12, 13, 100}, {8, 10, 11, 12, 13, 100},
+                                            {8, 9, 10, 100},        {8, 10, 12, 13, 100},     {8, 10, 11, 12, 13, 14, 100}};
 
 static mivtolgya_device device;
 static mivtolgya_cells cells, earlier; /* earlier: those of the device before */
+static mivtolgya_device bank[BANK]; /* the device as it was at its loads, and the cells that they were lent */
+static mivtolgya_cells lists[BANK];
+static size_t banked;
 static pattern matrix, spoiled;
 static size_t rows;
 static double kelvin, x[ROWS], rhs[ROWS + 1], values[SPACE + 2]; /* more than is ever lent: nothing may be written there */
@@ -338,6 +342,101 @@ static void load_by_cells(void) {
     keep(RESOLVED, mivtolgya_load_resolved(&device, flag, alpha(), &lent, rhs, lent_rows(), values, count));
     keep_slices();
     keep_cells(&lent);
+    bank[banked] = device;
+    lists[banked++] = one_in(2) ? cells : lent;
+}
+
+/* ---- several devices by cells, held to single loads one after the other */
+
+typedef struct {
+    size_t starts[RUNS], counts[RUNS], start_count, count_count;
+} runs;
+
+/* Parts of the rows in a row, perhaps turned round, at times with a number changed. */
+static runs lent_runs(void) {
+    runs r;
+    size_t at = 0;
+    r.start_count = r.count_count = below(RUNS + 1);
+    for (size_t i = 0; i < RUNS; i++) {
+        r.starts[i] = at + below(2) * below(rows - at + 1);
+        r.counts[i] = below(rows - r.starts[i] + 1);
+        at = r.starts[i] + r.counts[i];
+    }
+    for (size_t i = 0; i + 1 < r.start_count && one_in(2); i++) {
+        size_t start = r.starts[i], count = r.counts[i];
+        r.starts[i] = r.starts[i + 1], r.counts[i] = r.counts[i + 1];
+        r.starts[i + 1] = start, r.counts[i + 1] = count;
+    }
+    if (one_in(8)) *(one_in(2) ? r.starts : r.counts) = one_in(3) ? SIZE_MAX - below(rows + 1) : below(rows + 2);
+    if (one_in(40)) r.count_count = below(RUNS + 1);
+    return r;
+}
+
+/* Row 14 by the rows that each run has: none of them twice, and none behind the last. */
+static int refused_runs(const runs *r, size_t end, size_t devices) {
+    uint64_t taken = 0;
+    if (devices > MIVTOLGYA_MOST_DEVICES || r->start_count != r->count_count) return 1;
+    for (size_t i = 0; i < r->start_count; i++) {
+        if (r->starts[i] > end || r->counts[i] > end - r->starts[i]) return 1;
+        for (size_t row = r->starts[i]; row < r->starts[i] + r->counts[i]; row++) {
+            if (taken >> row & 1) return 1;
+            taken |= 1ull << row;
+        }
+    }
+    return 0;
+}
+
+/* What single loads by cells give: their numbers first, on a copy of both slices, then the loads after zeroing. */
+static uint64_t by_single_loads(const runs *r, size_t devices, size_t listed, uint64_t flag, double alpha_value, double *side, size_t side_count,
+                                double *cell_values, size_t count) {
+    static double other_side[ROWS + 1], other_values[SPACE + 2];
+    uint64_t lowest = listed < devices ? 13 : 0;
+    for (size_t i = 0; i < devices; i++) {
+        memcpy(other_side, side, sizeof other_side);
+        memcpy(other_values, cell_values, sizeof other_values);
+        mivtolgya_device copy = bank[i];
+        uint64_t number = mivtolgya_load_resolved(&copy, flag, alpha_value, &lists[i], other_side, side_count, other_values, count);
+        if (number == 100) return 100;
+        if (i < listed && number != 0 && (lowest == 0 || number < lowest)) lowest = number;
+    }
+    if (flag > 1) return 100;
+    if (refused_runs(r, side_count, devices)) return 14;
+    if (lowest != 0) return lowest;
+    for (size_t i = 0; i < side_count; i++) side[i] = 0;
+    for (size_t i = 0; i < count; i++) cell_values[i] = 0;
+    for (size_t i = 0; i < devices; i++) mivtolgya_load_resolved(&bank[i], flag, alpha_value, &lists[i], side, side_count, cell_values, count);
+    return 0;
+}
+
+static void load_bridge(void) {
+    static double side[ROWS + 1], cell_values[SPACE + 2];
+    size_t devices = one_in(20) ? MIVTOLGYA_MOST_DEVICES + below(2) : below(banked + 1), count = matrix.column_count, end = lent_rows();
+    for (size_t i = banked; i < devices; i++) bank[i] = bank[i % banked], lists[i] = lists[i % banked];
+    size_t listed = one_in(16) ? below(devices + 1) : devices;
+    if (one_in(16)) count += one_in(2) || count == 0 ? 1 : SIZE_MAX;
+    fill(rhs, rows + 1);
+    fill(values, matrix.column_count + 2);
+    memcpy(side, rhs, sizeof side);
+    memcpy(cell_values, values, sizeof cell_values);
+    runs r = lent_runs();
+    uint64_t flag = lent_flag();
+    double a = alpha();
+    uint64_t number = mivtolgya_load_bridge_resolved(bank, devices, r.starts, r.start_count, r.counts, r.count_count, flag, a, lists, listed,
+                                                     rhs, end, values, count);
+    keep(BRIDGE, number);
+    keep_slices();
+    uint64_t before = sum;
+    uint64_t single = by_single_loads(&r, devices, listed, flag, a, side, end, cell_values, count);
+    sum = 0, add_word(number), keep_slices();
+    uint64_t whole = sum;
+    memcpy(rhs, side, sizeof side);
+    memcpy(values, cell_values, sizeof cell_values);
+    sum = 0, add_word(single), keep_slices();
+    if (sum != whole) {
+        printf("a bridge's load gave %llu, single loads %llu, or other slices\n", (unsigned long long)number, (unsigned long long)single);
+        exit(4);
+    }
+    sum = before;
 }
 
 static void load(void) {
@@ -364,6 +463,7 @@ static void try_device(void) {
     make_device();
     make_pattern();
     earlier = cells;
+    banked = 0;
     resolve(&cells, &matrix);
     int damaged = one_in(4), rounds = 3 + (int)below(5);
     for (int round = 0; round < rounds; round++) {
@@ -379,6 +479,7 @@ static void try_device(void) {
         if (now) device = whole;
         if (one_in(40) && device.stage >= MIVTOLGYA_STAGE_BOUND) scale();
     }
+    load_bridge();
 }
 
 /* Prints the counts; answers whether every number occurred that should, and no other. */
