@@ -1,8 +1,8 @@
 -- The loads of a bank's devices by their cells, one after the other.
 use mathlib.Core.Path.{_≡_, refl, sym, ap, _∙_, subst}
-use mathlib.Core.Bool.{Bool, true, false, cond, not, _||_}
+use mathlib.Core.Bool.{Bool, true, false, not, _||_}
 use mathlib.Core.List.{List, [], _∷_}
-use Prim.Native.Nat.{ℕ, suc, _+_, _≤_, _<_}
+use Prim.Native.Nat.{ℕ, _+_, _≤_, _<_}
 use native.Mathlib.Numerals.{add-one}
 use lib.Dec.{eqb, ltb, leb}
 use lib.ListN.{length, getD, drop}
@@ -10,11 +10,10 @@ use lib.Ieee.{Float}
 use borrow.Author.Tests.{ltb-false}
 use Rattle.device.proofs.Rows.{number-0}
 use Rattle.device.specs.Stages.{unevaluated}
-use Rattle.assembly.specs.Assembly.{addSources}
-use Rattle.loading.specs.Loading.{nodesOutside, alphaOutside, branchesOf, jacobianContributions, rhsContributions, ifDone}
+use Rattle.loading.specs.Loading.{nodesOutside, alphaOutside}
 use Rattle.loading.specs.declared.LoadKind.{LoadKind}
 use Rattle.record_loading.specs.Load.{kindFrom}
-use Rattle.resolved_rows.specs.LoadResolved.{addStored, storedPlaces, cellsHeld, loadResolvedOf, resolvedRowOf}
+use Rattle.resolved_rows.specs.LoadResolved.{cellsHeld, resolvedRowOf}
 use Rattle.record_words.specs.Words.{recordOf}
 use Rattle.record_resolved.specs.Resolved.{resolvedSide, resolvedMatrix}
 use Rattle.record_resolved.specs.Steps.{resolvedNumber}

@@ -12,7 +12,7 @@ use Rattle.series.proofs.Bounds.{Up, Lo, up-weaken, lo-weaken, up-mono, lo-mono
 use Rattle.series.proofs.Differences.{up-sub, lo-le-up, one-plus}
 use Rattle.exponential.proofs.LnTwo.{Λ}
 use Rattle.exponential.specs.Mantissa.{hi}
-use Rattle.logarithm.specs.LnTable.{lnTable, inverseOf}
+use Rattle.tables.specs.LnTable.{lnTable, inverseOf}
 use Rattle.logarithm.specs.FixedPoint.{nearOne, lnMantOf, limit}
 use Rattle.logarithm.proofs.Tables.{final, entry-le, entry-up, entry-lo}
 use Rattle.logarithm.proofs.NearOne.{near-lo, near-up, near-le}

@@ -8,7 +8,7 @@ use Rattle.series.specs.Series.{top, bot}
 use Rattle.series.proofs.Product.{bot-pos}
 use Rattle.series.proofs.Bounds.{Up, Lo, doubled, up-doubled, up-weaken}
 use Rattle.exponential.proofs.Table.{both, both-left, both-right, every, at}
-use Rattle.logarithm.specs.LnTable.{lnTable}
+use Rattle.tables.specs.LnTable.{lnTable}
 use Rattle.logarithm.specs.FixedPoint.{limit}
 
 -- 1 in the last row

@@ -2,7 +2,7 @@
 use Prim.Native.Nat.{ℕ, _+_, _-_, _*_, _/_, _%_, _^_}
 use lib.ListN.{getD}
 use Rattle.exponential.specs.Mantissa.{hi}
-use Rattle.logarithm.specs.LnTable.{lnTable, inverseOf}
+use Rattle.tables.specs.LnTable.{lnTable, inverseOf}
 
 -- The polynomial z - z^2 / 2 + z^3 / 3 - c4 z^4 + c5 z^5, for z up to h = 1/128: its coefficients in units of 2^-64.
 -- With a = 57 h / 64, c4 = 1/4 - a^2 / 6 and c5 = 1/5 - a / 3: it is above the terms up to z^6 of the logarithm's series by z^4 (z - a)^2 / 6, which is below 2^-51.

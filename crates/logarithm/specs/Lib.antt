@@ -1,4 +1,3 @@
-pub mod LnTable
 pub mod FixedPoint
 pub mod Logarithm
 pub mod Accuracy

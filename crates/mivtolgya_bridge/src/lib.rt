@@ -2,7 +2,6 @@
 // second caller in one archive the compiler would no longer make one function of the load of a single device, which then takes half as long
 // again. The devices are records of the caller's in a row, read where they lie. Everything is tested before the first write.
 ghost use mathlib.Core.Path.{_≡_};
-ghost use lib.ListN.{length};
 ghost use Rattle.bridge_calls.specs.Calls.{bridgeCall, bridgeSide, bridgeMatrix, blockCall, blockSide, blockMatrix, resolvedBridgeCall, resolvedBridgeSide, resolvedBridgeMatrix};
 ghost use Rattle.bridge_calls.specs.Steps.{bridgeNumber, blockNumber, resolvedBridgeNumber};
 

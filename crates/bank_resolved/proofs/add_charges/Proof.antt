@@ -1,6 +1,6 @@
 -- `bank_resolved::add_charges`: where the load is transient, the charge branches of the device that the words are.
 use Prim.Native.Nat.{_<_, _^_}
-use mathlib.Core.Path.{_≡_, refl, sym, ap, _∙_}
+use mathlib.Core.Path.{sym, ap, _∙_}
 use native.Mathlib.Omega.{arith}
 use lib.ListN.{length}
 use denote.Ref.{now}

@@ -1,13 +1,10 @@
 -- `bank_resolved::add_devices`: device by device, each load accepted because no row applies to any.
-use mathlib.Core.Path.{_≡_, refl, sym, ap, _∙_}
-use mathlib.Core.Bool.{true}
+use mathlib.Core.Path.{_≡_, refl, sym, _∙_}
 use Prim.Native.Nat.{_-_, _≤_}
 use native.Mathlib.Omega.{arith}
-use lib.Dec.{leb}
 use lib.ListN.{length, drop}
 use denote.Ref.{now}
 use Rattle.record_loading.specs.Load.{kindFrom}
-use Rattle.device_bank.specs.Bank.{bankGood}
 use Rattle.bank_resolved.specs.Resolved.{celledOf, loadCelledInOrder}
 use Rattle.bank_resolved.proofs.InTurn.{Passed, all-passed, enough-cells, here-accepted, later-passed, one-turn, last-turn}
 use borrow.Author.Needs.{needs}

@@ -1,6 +1,6 @@
 -- `bank_resolved::add_static`: the static part of the device that the words are. No row refuses it, so the cells are those of its nodes.
 use Prim.Native.Nat.{_<_, _^_}
-use mathlib.Core.Path.{_≡_, refl, sym, ap, _∙_}
+use mathlib.Core.Path.{sym, ap, _∙_}
 use native.Mathlib.Omega.{arith}
 use lib.ListN.{length}
 use denote.Ref.{now}

@@ -1,6 +1,5 @@
 -- `bank_resolved::number_of`: that of the record which the words are.
-use mathlib.Core.Path.{_≡_, ap, _∙_}
-use lib.ListN.{length}
+use mathlib.Core.Path.{ap, _∙_}
 use denote.Ref.{now}
 use Rattle.record.specs.declared.DeviceRecord.{DeviceRecord}
 use Rattle.record_resolved.specs.Steps.{resolvedNumber}

@@ -8,7 +8,7 @@ use lib.ListN.{getD}
 use mir.Facts.{fits-bits}
 use borrow.Author.Needs.{needs}
 use Rattle.exponential.specs.Mantissa.{hi}
-use Rattle.logarithm.specs.LnTable.{lnTable, inverseOf}
+use Rattle.tables.specs.LnTable.{lnTable, inverseOf}
 use Rattle.logarithm.specs.FixedPoint.{nearOne, lnMantOf, limit}
 use Rattle.logarithm.proofs.LnMant.{z-lt, ln-mant-lt}
 use Rattle.logarithm.proofs.ln_mant.Statement.{statement}
@@ -22,8 +22,8 @@ sum-is : (m j t z r : ℕ) → j ≡ m / 2 ^ 55 % 128 → t ≡ getD lnTable j 0
 unfolding lnMantOf
 sum-is m j t z r ej et ez er = (λ i. (et ∙ ap (λ (k : ℕ). getD lnTable k 0) ej) i + (er ∙ ap nearOne ez) i)
 
-entry-requires : tie.Need-entry-requires
-entry-requires c κs = mask-lt (c .args .m / 2 ^ 55) 7
+ln-row-requires : tie.Need-ln-row-requires
+ln-row-requires c κs = mask-lt (c .args .m / 2 ^ 55) 7
 
 mulhi-requires : tie.Need-mulhi-requires
 mulhi-requires c κs = search needs
@@ -34,14 +34,14 @@ z-of s {v} {c} ev ec = z-is (s .args .m) _ v c (and-mask (s .args .m / 2 ^ 55) 7
 near-one-requires : tie.Need-near-one-requires
 near-one-requires c κs =
     let s = c .before .before in
-    subst (λ (z : ℕ). z < 2 ^ 57) (sym (z-of s (c .before .entry .ensures .0) (c .mulhi .ensures))) (z-lt (s .args .m) (s .pre .0) (s .pre .1))
+    subst (λ (z : ℕ). z < 2 ^ 57) (sym (z-of s (c .before .ln-row .ensures .0) (c .mulhi .ensures))) (z-lt (s .args .m) (s .pre .0) (s .pre .1))
 
-sum : (c : tie.After-near-one) → c .before .before .entry .result .log + c .near-one .result ≡ lnMantOf (c .before .before .before .args .m)
+sum : (c : tie.After-near-one) → c .before .before .ln-row .result .log + c .near-one .result ≡ lnMantOf (c .before .before .before .args .m)
 sum c =
     let s = c .before .before .before in
-    sum-is (s .args .m) _ _ _ _ (and-mask (s .args .m / 2 ^ 55) 7) (c .before .before .entry .ensures .1) (z-of s (c .before .before .entry .ensures .0) (c .before .mulhi .ensures)) (c .near-one .ensures)
+    sum-is (s .args .m) _ _ _ _ (and-mask (s .args .m / 2 ^ 55) 7) (c .before .before .ln-row .ensures .1) (z-of s (c .before .before .ln-row .ensures .0) (c .before .mulhi .ensures)) (c .near-one .ensures)
 
-sum-lt : (c : tie.After-near-one) → c .before .before .entry .result .log + c .near-one .result < limit
+sum-lt : (c : tie.After-near-one) → c .before .before .ln-row .result .log + c .near-one .result < limit
 sum-lt c = let s = c .before .before .before in subst (λ (g : ℕ). g < limit) (sym (sum c)) (ln-mant-lt (s .args .m) (s .pre .0) (s .pre .1))
 
 add-result : tie.Need-add-result
@@ -51,4 +51,4 @@ returns : tie.Need-returns
 returns c = (sum c, sum-lt c)
 
 pub ln-mant-spec : {M : Type 1} → statement M
-ln-mant-spec = tie.close (tie.spec entry-requires mulhi-requires near-one-requires add-result returns)
+ln-mant-spec = tie.close (tie.spec ln-row-requires mulhi-requires near-one-requires add-result returns)

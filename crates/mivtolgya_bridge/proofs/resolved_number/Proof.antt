@@ -5,7 +5,6 @@ use mathlib.Core.Bool.{true}
 use mathlib.Core.Logic.{⊎-elim}
 use Rattle.device_bank.specs.Bank.{bankGood}
 use native.Mathlib.Omega.{arith}
-use lib.ListN.{length}
 use denote.Ref.{now}
 use borrow.Author.Tests.{not-true, not-false, le-leb}
 use Rattle.bridge_calls.specs.Steps.{resolvedBridgeNumber}

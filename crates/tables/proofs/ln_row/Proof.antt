@@ -1,11 +1,11 @@
--- `logarithm::entry` meets its contract. Assumes nothing.
+-- `tables::ln_row` meets its contract. Assumes nothing.
 use mathlib.Core.Path.{_≡_, sym, ap}
 use Prim.Native.Nat.{ℕ}
 use lib.ListN.{getD}
-use Rattle.exponential.proofs.Arms.{last}
-use Rattle.logarithm.specs.LnTable.{inverseOf, lnTable}
-use Rattle.logarithm.proofs.entry.Statement.{statement}
-use Rattle.logarithm.proofs.entry.Tie as tie
+use Rattle.tables.proofs.Arms.{last}
+use Rattle.tables.specs.LnTable.{inverseOf, lnTable}
+use Rattle.tables.proofs.ln_row.Statement.{statement}
+use Rattle.tables.proofs.ln_row.Tie as tie
 
 entries : (k j : ℕ) → k ≡ j → (inverseOf k ≡ inverseOf j) × (getD lnTable k 0 ≡ getD lnTable j 0)
 entries k j e = (ap inverseOf e, ap (λ (i : ℕ). getD lnTable i 0) e)
@@ -394,5 +394,5 @@ returns-127 c = entries 126 _ (sym (c .match .keys127))
 returns-128 : tie.Need-returns-128
 returns-128 c = entries 127 _ (last 127 (c .before .args .j) (c .match .rest) (c .before .pre))
 
-pub entry-spec : {M : Type 1} → statement M
-entry-spec = tie.close (tie.spec returns returns-2 returns-3 returns-4 returns-5 returns-6 returns-7 returns-8 returns-9 returns-10 returns-11 returns-12 returns-13 returns-14 returns-15 returns-16 returns-17 returns-18 returns-19 returns-20 returns-21 returns-22 returns-23 returns-24 returns-25 returns-26 returns-27 returns-28 returns-29 returns-30 returns-31 returns-32 returns-33 returns-34 returns-35 returns-36 returns-37 returns-38 returns-39 returns-40 returns-41 returns-42 returns-43 returns-44 returns-45 returns-46 returns-47 returns-48 returns-49 returns-50 returns-51 returns-52 returns-53 returns-54 returns-55 returns-56 returns-57 returns-58 returns-59 returns-60 returns-61 returns-62 returns-63 returns-64 returns-65 returns-66 returns-67 returns-68 returns-69 returns-70 returns-71 returns-72 returns-73 returns-74 returns-75 returns-76 returns-77 returns-78 returns-79 returns-80 returns-81 returns-82 returns-83 returns-84 returns-85 returns-86 returns-87 returns-88 returns-89 returns-90 returns-91 returns-92 returns-93 returns-94 returns-95 returns-96 returns-97 returns-98 returns-99 returns-100 returns-101 returns-102 returns-103 returns-104 returns-105 returns-106 returns-107 returns-108 returns-109 returns-110 returns-111 returns-112 returns-113 returns-114 returns-115 returns-116 returns-117 returns-118 returns-119 returns-120 returns-121 returns-122 returns-123 returns-124 returns-125 returns-126 returns-127 returns-128)
+pub ln-row-spec : {M : Type 1} → statement M
+ln-row-spec = tie.close (tie.spec returns returns-2 returns-3 returns-4 returns-5 returns-6 returns-7 returns-8 returns-9 returns-10 returns-11 returns-12 returns-13 returns-14 returns-15 returns-16 returns-17 returns-18 returns-19 returns-20 returns-21 returns-22 returns-23 returns-24 returns-25 returns-26 returns-27 returns-28 returns-29 returns-30 returns-31 returns-32 returns-33 returns-34 returns-35 returns-36 returns-37 returns-38 returns-39 returns-40 returns-41 returns-42 returns-43 returns-44 returns-45 returns-46 returns-47 returns-48 returns-49 returns-50 returns-51 returns-52 returns-53 returns-54 returns-55 returns-56 returns-57 returns-58 returns-59 returns-60 returns-61 returns-62 returns-63 returns-64 returns-65 returns-66 returns-67 returns-68 returns-69 returns-70 returns-71 returns-72 returns-73 returns-74 returns-75 returns-76 returns-77 returns-78 returns-79 returns-80 returns-81 returns-82 returns-83 returns-84 returns-85 returns-86 returns-87 returns-88 returns-89 returns-90 returns-91 returns-92 returns-93 returns-94 returns-95 returns-96 returns-97 returns-98 returns-99 returns-100 returns-101 returns-102 returns-103 returns-104 returns-105 returns-106 returns-107 returns-108 returns-109 returns-110 returns-111 returns-112 returns-113 returns-114 returns-115 returns-116 returns-117 returns-118 returns-119 returns-120 returns-121 returns-122 returns-123 returns-124 returns-125 returns-126 returns-127 returns-128)

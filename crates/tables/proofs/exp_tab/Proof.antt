@@ -1,11 +1,11 @@
--- `exponential::exp_tab` meets its contract. Assumes nothing.
+-- `tables::exp_tab` meets its contract. Assumes nothing.
 use mathlib.Core.Path.{_≡_, sym, ap}
 use Prim.Native.Nat.{ℕ}
 use lib.ListN.{getD}
-use Rattle.exponential.specs.Mantissa.{expTable}
-use Rattle.exponential.proofs.Arms.{last}
-use Rattle.exponential.proofs.exp_tab.Statement.{statement}
-use Rattle.exponential.proofs.exp_tab.Tie as tie
+use Rattle.tables.specs.ExpTable.{expTable}
+use Rattle.tables.proofs.Arms.{last}
+use Rattle.tables.proofs.exp_tab.Statement.{statement}
+use Rattle.tables.proofs.exp_tab.Tie as tie
 
 entry : (k j : ℕ) → k ≡ j → getD expTable k 0 ≡ getD expTable j 0
 entry k j e = ap (λ (i : ℕ). getD expTable i 0) e

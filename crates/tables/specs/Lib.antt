@@ -1,0 +1,2 @@
+pub mod ExpTable
+pub mod LnTable
