@@ -97,7 +97,7 @@ fn add_charges(
         let r = record_words::record_for_charges(w);
         let d = from_record::device_from(r);
         let n = nodes_of(cells);
-        load_resolved::add_charges(n, d, alpha, cells, rhs, values);
+        charges_resolved::add_charges(n, d, alpha, cells, rhs, values);
     }
 }
 

@@ -1,4 +1,4 @@
--- The steps of the code, by node numbers: what its private functions answer. A reader of the calls needs none of it.
+-- The steps of the code, by node numbers: what the functions of this crate and of `charges_resolved` answer. A reader of the calls needs none of it.
 use Prim.Native.Nat.{ℕ}
 use mathlib.Core.Bool.{cond}
 use mathlib.Core.List.{List, [], _∷_, _++_}

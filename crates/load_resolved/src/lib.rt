@@ -1,14 +1,11 @@
-// A load by cells that were looked up before: no pattern, no search (`load_residual`, `load_jacobian` and their transient forms of
-// mosfet1.rs over `jac_cells`). The cells are 37 numbers of the caller's, in the order of `resolve`; all of them is tested before
-// the first write (`resolved_rows`). `adding` and `stamps` have the same sums for the load that searches: there each large function
-// must keep its one caller, or the compiler makes calls of them, and a load takes a third longer.
+// The static part of a load by cells that were looked up before: no pattern, no search (`load_residual` and `load_jacobian` of mosfet1.rs
+// over `jac_cells`). The cells are 37 numbers of the caller's, in the order of `resolve`; all of them is tested before the first write
+// (`resolved_rows`). The charge branches and the whole load are `charges_resolved`; what both are defined by, and the laws, stand here.
+// `adding` and `stamps` have the same sums for the load that searches: there each large function must keep its one caller, or the
+// compiler makes calls of them, and a load takes a third longer.
 use device::Mosfet1;
 use device::OperatingPoint;
-use loading::LoadAnswer;
-use loading::LoadKind;
 use places::Nodes;
-use stamps::ChargeBranch;
-use stamps::ChargeBranches;
 ghost use Prim.Native.Nat.{_+_, _<_};
 ghost use mathlib.Core.Path.{_≡_};
 ghost use mathlib.Core.Bool.{true, _||_};
@@ -17,14 +14,13 @@ ghost use lib.ListN.{length, getD};
 ghost use lib.Dec.{eqb};
 ghost use lib.Ieee.{neg};
 ghost use Rattle.exact.specs.Float64.{_⊕_, +0};
-ghost use Rattle.stamps.specs.Stamps.{position, jacPairsOf, jacValuesOf, residualOf, seriesOf, channelValues, chargeBranchesOf};
+ghost use Rattle.stamps.specs.Stamps.{position, jacPairsOf, jacValuesOf, residualOf, seriesOf, channelValues};
 ghost use Rattle.places.specs.Places.{skippedNumber, nodeAt, nodesOf, terminalsAt};
 ghost use Rattle.adding.specs.Adding.{addAt, addAll, addSources, offsetSources};
 ghost use Rattle.assembly.specs.Assembly.{addPlace, paired};
-ghost use Rattle.loading.specs.Loading.{outcomeOfLoad};
-ghost use Rattle.resolved_rows.specs.LoadResolved.{numbersFrom, storedPlace, addStored, LoadedResolved};
-ghost use Rattle.resolved_rows.specs.ByNumbers.{pairsStored, pairStored, branchStored, branchesStored, conductingStored, allBelow};
-ghost use Rattle.load_resolved.specs.ByNumbers.{placeBetween, channelPairs, addChannel, addRow, addPair, addConductance, addBranch, addBranchesStored, historySources};
+ghost use Rattle.resolved_rows.specs.LoadResolved.{numbersFrom, storedPlace, addStored};
+ghost use Rattle.resolved_rows.specs.ByNumbers.{pairsStored, pairStored, allBelow};
+ghost use Rattle.load_resolved.specs.ByNumbers.{placeBetween, channelPairs, addChannel, addRow, addPair};
 
 // The number of ground among the nodes, and of a place that is skipped.
 const SKIPPED: usize = 18446744073709551615;
@@ -42,7 +38,7 @@ fn place_between(row: usize, column: usize, place: usize) -> usize
 }
 
 // One of two nodes is ground.
-fn either_ground(a: usize, b: usize) -> bool
+pub fn either_ground(a: usize, b: usize) -> bool
     ensures { λ r. ⌜ r ≡ (eqb a skippedNumber || eqb b skippedNumber) ⌝ }
 {
     if a == SKIPPED {
@@ -61,7 +57,7 @@ fn any_ground(a: usize, b: usize, c: usize, d: usize) -> bool
 }
 
 // A value added at a place that is known to be among the values: the rows were asked for before the first write.
-fn add_known(xs: &mut [f64], place: usize, x: f64)
+pub fn add_known(xs: &mut [f64], place: usize, x: f64)
     requires { ⌜ place < length (now xs) ⌝ }
     ensures { λ r. ⌜ now (xs .exit) ≡ addAt (now (xs .entry)) place x ⌝ }
 {
@@ -69,7 +65,7 @@ fn add_known(xs: &mut [f64], place: usize, x: f64)
 }
 
 // A value added at a stored place, unless an end of its position is ground.
-fn add_cell(xs: &mut [f64], row: usize, column: usize, place: usize, x: f64)
+pub fn add_cell(xs: &mut [f64], row: usize, column: usize, place: usize, x: f64)
     ensures { λ r. ⌜ now (xs .exit) ≡ addPlace (storedPlace (position (nodeAt row) (nodeAt column)) place) x (now (xs .entry)) ⌝ }
 {
     let at = place_between(row, column, place);
@@ -288,110 +284,6 @@ fn add_jacobian(xs: &mut [f64], n: Nodes, cells: &[usize; 37], d: Mosfet1)
     pair_at(xs, bulk, drain, gbd, cells, 28);
 }
 
-// A conductance at its four cells, in the order of `stamp_g_pair`. Ground is asked for once, as in `add_pair`.
-fn add_four(xs: &mut [f64], a: usize, b: usize, g: f64, aa: usize, ab: usize, bb: usize, ba: usize)
-    requires { ⌜ branchStored (length (now xs)) true a b aa ab bb ba ≡ true ⌝ }
-    ensures { λ r. ⌜ now (xs .exit) ≡ addConductance a b g aa ab bb ba (now (xs .entry)) ⌝ }
-{
-    if either_ground(a, b) {
-        add_cell(xs, a, a, aa, g);
-        add_cell(xs, a, b, ab, -g);
-        add_cell(xs, b, b, bb, g);
-        add_cell(xs, b, a, ba, -g);
-    } else {
-        add_known(xs, aa, g);
-        add_known(xs, ab, -g);
-        add_known(xs, bb, g);
-        add_known(xs, ba, -g);
-    }
-}
-
-// A charge branch that conducts.
-fn add_branch(
-    xs: &mut [f64],
-    br: ChargeBranch,
-    a: usize,
-    b: usize,
-    aa: usize,
-    ab: usize,
-    bb: usize,
-    ba: usize,
-)
-    requires { ⌜ branchStored (length (now xs)) (br .conducts) a b aa ab bb ba ≡ true ⌝ }
-    ensures { λ r. ⌜ now (xs .exit) ≡ addBranch br a b aa ab bb ba (now (xs .entry)) ⌝ }
-{
-    let g = br.conductance;
-    if br.conducts {
-        add_four(xs, a, b, g, aa, ab, bb, ba);
-    }
-}
-
-// A charge branch by the indices of its four places.
-fn branch_at(
-    xs: &mut [f64],
-    br: ChargeBranch,
-    a: usize,
-    b: usize,
-    cells: &[usize; 37],
-    aa: usize,
-    ab: usize,
-    bb: usize,
-    ba: usize,
-)
-    requires { ⌜ (aa < 37) × ((ab < 37) × ((bb < 37) × ((ba < 37)
-        × (branchStored (length (now xs)) (br .conducts) a b (getD (now cells) aa 0) (getD (now cells) ab 0) (getD (now cells) bb 0) (getD (now cells) ba 0) ≡ true)))) ⌝ }
-    ensures { λ r. ⌜ now (xs .exit) ≡ addBranch br a b (getD (now (cells .entry)) aa 0) (getD (now (cells .entry)) ab 0) (getD (now (cells .entry)) bb 0) (getD (now (cells .entry)) ba 0) (now (xs .entry)) ⌝ }
-{
-    add_branch(xs, br, a, b, cells[aa], cells[ab], cells[bb], cells[ba]);
-}
-
-fn add_branches(xs: &mut [f64], n: Nodes, cells: &[usize; 37], b: ChargeBranches)
-    requires { ⌜ conductingStored (length (now xs)) n (now cells) b ≡ true ⌝ }
-    ensures { λ r. ⌜ now (xs .exit) ≡ addBranchesStored n (now (cells .entry)) b (now (xs .entry)) ⌝ }
-{
-    let gate = n.gate;
-    let drain = n.drain;
-    let source = n.source;
-    let bulk = n.bulk;
-    branch_at(xs, b.gs, gate, source, cells, 32, 33, 14, 12);
-    branch_at(xs, b.gd, gate, drain, cells, 32, 34, 9, 8);
-    branch_at(xs, b.gb, gate, bulk, cells, 32, 35, 24, 36);
-    branch_at(xs, b.bs, bulk, source, cells, 24, 25, 14, 15);
-    branch_at(xs, b.bd, bulk, drain, cells, 24, 29, 9, 11);
-}
-
-// The history currents of gs, gd, gb, bs, bd.
-fn add_histories(xs: &mut [f64], n: Nodes, b: ChargeBranches)
-    ensures { λ r. ⌜ now (xs .exit) ≡ addSources (historySources n b) (now (xs .entry)) ⌝ }
-{
-    let drain = n.drain;
-    let gate = n.gate;
-    let source = n.source;
-    let bulk = n.bulk;
-    let gs = b.gs;
-    let gd = b.gd;
-    let gb = b.gb;
-    let bs = b.bs;
-    let bd = b.bd;
-    adding::add_history(xs, gate, source, gs.remembers, gs.history);
-    adding::add_history(xs, gate, drain, gd.remembers, gd.history);
-    adding::add_history(xs, gate, bulk, gb.remembers, gb.history);
-    adding::add_history(xs, bulk, source, bs.remembers, bs.history);
-    adding::add_history(xs, bulk, drain, bd.remembers, bd.history);
-}
-
-fn charge_branches(d: Mosfet1, alpha: f64) -> ChargeBranches
-    ensures { λ r. ⌜ r ≡ chargeBranchesOf d alpha ⌝ }
-{
-    ChargeBranches {
-        gs: stamps::gs_branch(d, alpha),
-        gd: stamps::gd_branch(d, alpha),
-        gb: stamps::gb_branch(d, alpha),
-        bs: stamps::bs_branch(d, alpha),
-        bd: stamps::bd_branch(d, alpha),
-    }
-}
-
 // `load_jacobian` and `load_residual`. The rows were asked for before, so every place that counts is there.
 pub fn add_static(n: Nodes, d: Mosfet1, cells: &[usize; 37], rhs: &mut [f64], values: &mut [f64])
     requires { ⌜ (n ≡ nodesOf (d .terminals)) × (pairsStored (length (now values)) (jacPairsOf (terminalsAt (nodesOf (d .terminals)))) (numbersFrom (now cells) 8 24) ≡ true) ⌝ }
@@ -401,45 +293,4 @@ pub fn add_static(n: Nodes, d: Mosfet1, cells: &[usize; 37], rhs: &mut [f64], va
     add_jacobian(values, n, cells, d);
     let o = stamps::residual_values(d);
     adding::add_offsets(rhs, n, o);
-}
-
-// What `load_jacobian_tran` and `load_residual_tran` add to that: the charge branches.
-pub fn add_charges(
-    n: Nodes,
-    d: Mosfet1,
-    alpha: f64,
-    cells: &[usize; 37],
-    rhs: &mut [f64],
-    values: &mut [f64],
-)
-    requires { ⌜ (n ≡ nodesOf (d .terminals)) × (branchesStored (length (now values)) (nodesOf (d .terminals)) (now cells) (d .charges) ≡ true) ⌝ }
-    ensures { λ r. ⌜ (now (values .exit) ≡ addBranchesStored (nodesOf (d .terminals)) (now (cells .entry)) (chargeBranchesOf d alpha) (now (values .entry)))
-        × (now (rhs .exit) ≡ addSources (historySources (nodesOf (d .terminals)) (chargeBranchesOf d alpha)) (now (rhs .entry))) ⌝ }
-{
-    let b = charge_branches(d, alpha);
-    add_branches(values, n, cells, b);
-    add_histories(rhs, n, b);
-}
-
-// A load by cells that were looked up before, where nothing is known of the nodes. A refused load leaves both slices as they were.
-pub fn load_resolved(
-    d: Mosfet1,
-    kind: LoadKind,
-    cells: &[usize; 37],
-    rhs: &mut [f64],
-    values: &mut [f64],
-) -> LoadAnswer
-    ensures { λ r. ⌜ LoadedResolved d kind (now (cells .entry)) (now (rhs .entry)) (now (values .entry)) (outcomeOfLoad r) (now (rhs .exit)) (now (values .exit)) ⌝ }
-{
-    let n = places::indices(d.terminals);
-    let row = resolved_rows::resolved_row(n, d, kind, false, cells, rhs.len(), values.len());
-    if row != 0 {
-        return LoadAnswer::Refused(row);
-    }
-    add_static(n, d, cells, rhs, values);
-    match kind {
-        LoadKind::DirectCurrent => {}
-        LoadKind::Transient(alpha) => add_charges(n, d, alpha, cells, rhs, values),
-    }
-    LoadAnswer::Done
 }

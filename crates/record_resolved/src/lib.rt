@@ -191,7 +191,7 @@ pub fn add_charges(
         if transient == 1 {
             let d = from_record::device_from(r);
             let n = node_numbers(r.terminals);
-            load_resolved::add_charges(n, d, alpha, cells, rhs, values);
+            charges_resolved::add_charges(n, d, alpha, cells, rhs, values);
         }
     }
 }

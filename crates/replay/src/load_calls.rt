@@ -236,7 +236,7 @@ fn load_kept(
     let start = 0;
     let numbers = at_most(w.numbers, rhs.len());
     let count = at_most(w.count, values.len());
-    row_of(load_resolved::load_resolved(
+    row_of(charges_resolved::load_resolved(
         device_of(&device),
         record_loading::kind_from(w.transient, w.alpha),
         cells,

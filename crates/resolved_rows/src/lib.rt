@@ -1,5 +1,5 @@
 // The tests of a load by cells that were looked up before: what refuses it, all of it asked before the first write. The cells are 37
-// numbers of the caller's, in the order of `resolve`; `load_resolved` has the additions.
+// numbers of the caller's, in the order of `resolve`; `load_resolved` and `charges_resolved` have the additions.
 use device::Charges;
 use device::Mosfet1;
 use device::Stage;

@@ -1,4 +1,4 @@
--- `load_resolved::add_branch`: where it conducts.
+-- `charges_resolved::add_branch`: where it conducts.
 use mathlib.Core.Path.{_≡_, subst}
 use mathlib.Core.Bool.{Bool, true}
 use lib.ListN.{length}
@@ -6,10 +6,10 @@ use denote.Ref.{now}
 use Rattle.assembly.specs.Assembly.{branchCells}
 use Rattle.resolved_rows.specs.LoadResolved.{addStored, branchPlaces}
 use Rattle.resolved_rows.specs.ByNumbers.{branchStored}
 use Rattle.load_resolved.specs.ByNumbers.{addBranch, addConductance}
 use borrow.Author.Needs.{needs}
-use Rattle.load_resolved.proofs.add_branch.Statement.{statement}
-use Rattle.load_resolved.proofs.add_branch.Tie as tie
+use Rattle.charges_resolved.proofs.add_branch.Statement.{statement}
+use Rattle.charges_resolved.proofs.add_branch.Tie as tie
 
 add-four-requires : tie.Need-add-four-requires
 add-four-requires c κs =

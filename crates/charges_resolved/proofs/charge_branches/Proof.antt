@@ -1,8 +1,8 @@
--- `load_resolved::charge_branches`: each of the five.
+-- `charges_resolved::charge_branches`: each of the five.
 use Rattle.stamps.proofs.Records.{branches-same}
 use borrow.Author.Needs.{needs}
-use Rattle.load_resolved.proofs.charge_branches.Statement.{statement}
-use Rattle.load_resolved.proofs.charge_branches.Tie as tie
+use Rattle.charges_resolved.proofs.charge_branches.Statement.{statement}
+use Rattle.charges_resolved.proofs.charge_branches.Tie as tie
 
 gs-branch-requires : tie.Need-gs-branch-requires
 gs-branch-requires c κs = search needs

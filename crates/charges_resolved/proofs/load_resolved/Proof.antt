@@ -1,4 +1,4 @@
--- `load_resolved::load_resolved`: the rows, then the parts.
+-- `charges_resolved::load_resolved`: the rows, then the parts.
 use mathlib.Core.Path.{_≡_, sym, ap, _∙_, subst}
 use mathlib.Core.Bool.{true, false≢true}
 use mathlib.Core.List.{List}
@@ -14,13 +14,13 @@ use Rattle.loading.specs.Loading.{branchesOf, jacobianContributions, rhsContrib
 use Rattle.loading.specs.declared.LoadKind.{LoadKind}
 use Rattle.resolved_rows.specs.LoadResolved.{addStored, storedPlaces, resolvedRowOf}
 use Rattle.resolved_rows.specs.ByNumbers.{branchesStored}
 use Rattle.load_resolved.specs.ByNumbers.{addBranchesStored, historySources}
 use Rattle.load_resolved.proofs.Stored.{length-stored}
 use Rattle.load_resolved.proofs.Parts.{refused-row, accepted-row, nodes-back, static-matrix, static-side, transient-matrix, transient-side}
 use Rattle.resolved_rows.proofs.Known.{pairs-held, branches-held}
 use borrow.Author.Needs.{needs}
-use Rattle.load_resolved.proofs.load_resolved.Statement.{statement}
-use Rattle.load_resolved.proofs.load_resolved.Tie as tie
+use Rattle.charges_resolved.proofs.load_resolved.Statement.{statement}
+use Rattle.charges_resolved.proofs.load_resolved.Tie as tie
 
 -- the function's start, seen from where the rows are known
 abbrev start : tie.After-resolved-row → tie.Start

@@ -1,4 +1,4 @@
--- `load_resolved::add_charges`: the numbers are those of the device's nodes.
+-- `charges_resolved::add_charges`: the numbers are those of the device's nodes.
 use mathlib.Core.Path.{_≡_, sym, ap, _∙_, subst}
 use mathlib.Core.Bool.{true}
 use lib.ListN.{length}
@@ -8,11 +8,11 @@ use Rattle.places.specs.Places.{nodesOf}
 use Rattle.places.specs.declared.Nodes.{Nodes}
 use Rattle.adding.specs.Adding.{addSources}
 use Rattle.resolved_rows.specs.ByNumbers.{conductingStored}
 use Rattle.load_resolved.specs.ByNumbers.{addBranchesStored, historySources}
 use Rattle.load_resolved.proofs.There.{conducting-is}
 use borrow.Author.Needs.{needs}
-use Rattle.load_resolved.proofs.add_charges.Statement.{statement}
-use Rattle.load_resolved.proofs.add_charges.Tie as tie
+use Rattle.charges_resolved.proofs.add_charges.Statement.{statement}
+use Rattle.charges_resolved.proofs.add_charges.Tie as tie
 
 charge-branches-requires : tie.Need-charge-branches-requires
 charge-branches-requires c κs = search needs

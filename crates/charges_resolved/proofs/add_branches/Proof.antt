@@ -1,4 +1,4 @@
--- `load_resolved::add_branches`: five branches in turn.
+-- `charges_resolved::add_branches`: five branches in turn.
 use mathlib.Core.Path.{_≡_, sym, ap, _∙_, subst}
 use mathlib.Core.Bool.{true}
 use Prim.Native.Nat.{ℕ}
@@ -6,11 +6,11 @@ use native.Mathlib.Omega.{arith}
 use lib.ListN.{length}
 use denote.Ref.{now}
 use Rattle.resolved_rows.specs.ByNumbers.{conductingStored}
 use Rattle.load_resolved.specs.ByNumbers.{addBranchesStored}
 use Rattle.load_resolved.proofs.Stored.{length-branch, length-branches}
 use Rattle.load_resolved.proofs.There.{gs-stored, gd-stored, gb-stored, bs-stored, bd-stored}
-use Rattle.load_resolved.proofs.add_branches.Statement.{statement}
-use Rattle.load_resolved.proofs.add_branches.Tie as tie
+use Rattle.charges_resolved.proofs.add_branches.Statement.{statement}
+use Rattle.charges_resolved.proofs.add_branches.Tie as tie
 
 -- what was asked for of the values at the start, of as many later
 later : (s : tie.Start) {n : ℕ} → n ≡ length (now (s .args .xs)) → conductingStored n (s .args .n) (now (s .args .cells)) (s .args .b) ≡ true

@@ -1,7 +1,7 @@
--- `load_resolved::branch_at`: the places that it reads are those that were asked for.
+-- `charges_resolved::branch_at`: the places that it reads are those that were asked for.
 use borrow.Author.Needs.{needs}
-use Rattle.load_resolved.proofs.branch_at.Statement.{statement}
-use Rattle.load_resolved.proofs.branch_at.Tie as tie
+use Rattle.charges_resolved.proofs.branch_at.Statement.{statement}
+use Rattle.charges_resolved.proofs.branch_at.Tie as tie
 
 mul-add-branch : tie.Need-mul-add-branch
 mul-add-branch c = search needs

@@ -1,10 +1,10 @@
--- `load_resolved::add_histories`: five history currents in turn.
+-- `charges_resolved::add_histories`: five history currents in turn.
 use Rattle.adding.specs.Adding.{branchHistory}
 use Rattle.adding.proofs.Adding.{sources-append}
 use Rattle.load_resolved.specs.ByNumbers.{historySources}
 use borrow.Author.Needs.{needs}
-use Rattle.load_resolved.proofs.add_histories.Statement.{statement}
-use Rattle.load_resolved.proofs.add_histories.Tie as tie
+use Rattle.charges_resolved.proofs.add_histories.Statement.{statement}
+use Rattle.charges_resolved.proofs.add_histories.Tie as tie
 
 add-history-requires : tie.Need-add-history-requires
 add-history-requires c κs = search needs

@@ -1,16 +1,16 @@
--- `load_resolved::add_four`: four additions in turn, by cell or plain.
+-- `charges_resolved::add_four`: four additions in turn, by cell or plain.
 use mathlib.Core.Path.{sym, _∙_}
 use Prim.Native.Nat.{_<_}
 use lib.ListN.{length}
 use denote.Ref.{now}
 use Rattle.assembly.specs.Assembly.{conductancePair}
 use Rattle.resolved_rows.specs.LoadResolved.{addStored}
 use Rattle.load_resolved.specs.ByNumbers.{addConductance}
 use Rattle.load_resolved.proofs.Stored.{conductance-plain}
 use Rattle.load_resolved.proofs.There.{still-below, branch-known}
 use borrow.Author.Needs.{needs}
-use Rattle.load_resolved.proofs.add_four.Statement.{statement}
-use Rattle.load_resolved.proofs.add_four.Tie as tie
+use Rattle.charges_resolved.proofs.add_four.Statement.{statement}
+use Rattle.charges_resolved.proofs.add_four.Tie as tie
 
 -- the function's start, seen from the branch without ground
 abbrev start : tie.Else1 → tie.Start
