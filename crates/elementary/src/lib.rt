@@ -1,5 +1,7 @@
-// The elementary functions: one name for each function of the crates below, and its export for C. Those that answer a struct stand
+// The elementary functions: one name for each function of the crates below, and what `elementary_c` exports of it for C. Those that answer a struct stand
 // here as functions of their own, since a caller must be able to name the type, and a name that is passed on does not do for that.
+#![tactic(auto)]
+
 ghost use Rattle.std.specs.Prelude.{◌≡◌};
 ghost use Rattle.elementary.specs.Functions.{sqrt_of, exp_of, ln_of, ln1p_of, pow_of};
 ghost use Rattle.std.specs.Float.Ieee.{neg};
@@ -11,13 +13,13 @@ pub use power::pow;
 pub use square_root::sqrt;
 
 // Powers of one base, by one logarithm.
-#[derive(Drop)]
+#[derive(Clone, Copy)]
 pub struct TwoPowers {
     pub first: f64,
     pub second: f64,
 }
 
-#[derive(Drop)]
+#[derive(Clone, Copy)]
 pub struct FourPowers {
     pub first: f64,
     pub second: f64,
@@ -60,37 +62,32 @@ pub fn fractional_powers(b: f64, m: f64, n: f64) -> FourPowers
     }
 }
 
-// ---- for C
-#[unsafe(no_mangle)]
-pub extern "C" fn elementary_sqrt(x: f64) -> f64
+// ---- what `elementary_c` exports for C
+pub fn elementary_sqrt(x: f64) -> f64
     ensures { result ≡ sqrt_of x }
 {
     sqrt(x)
 }
 
-#[unsafe(no_mangle)]
-pub extern "C" fn elementary_exp(x: f64) -> f64
+pub fn elementary_exp(x: f64) -> f64
     ensures { result ≡ exp_of x }
 {
     exp(x)
 }
 
-#[unsafe(no_mangle)]
-pub extern "C" fn elementary_ln(x: f64) -> f64
+pub fn elementary_ln(x: f64) -> f64
     ensures { result ≡ ln_of x }
 {
     ln(x)
 }
 
-#[unsafe(no_mangle)]
-pub extern "C" fn elementary_ln_1p(a: f64) -> f64
+pub fn elementary_ln_1p(a: f64) -> f64
     ensures { result ≡ ln1p_of a }
 {
     ln_1p(a)
 }
 
-#[unsafe(no_mangle)]
-pub extern "C" fn elementary_pow(b: f64, p: f64) -> f64
+pub fn elementary_pow(b: f64, p: f64) -> f64
     ensures { result ≡ pow_of b p }
 {
     pow(b, p)

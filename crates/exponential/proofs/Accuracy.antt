@@ -1,6 +1,6 @@
 -- What document 01 says of exp: within 2^-45 of E from -700 to 700, and the special cases. Assumes nothing.
 use Rattle.std.proofs.Common.{◌≡◌, ℕ, zero, suc, ◌+◌, ◌*◌, ◌^◌, ◌<◌, ◌≤◌, Bool, true, false, T, ltb, [], ◌∷◌, ℤ, sym, refl, ap, subst, zero-le, zero-lt-suc, mul-pos, zero-mul, arith, lt→ltb, le-ltb, lt-ltb}
-use lib.Ieee.{Float, nan, inf, fin, binary64, fits, lt, le, eq, neg, up, down, of_bits, level}
+use lib.Ieee.{Float, nan, inf, fin, binary64, fits, lt, eq, neg, up, down, of_bits, level}
 use lib.Ieee.Fits.{up_pos, neg-fits}
 use lib.Ieee.Bits.{is_true}
 use lib.Ieee.Scale.{finite}

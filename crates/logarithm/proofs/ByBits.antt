@@ -1,7 +1,7 @@
 -- ln of a positive normal number by its bits: the exponent's field tells the sign, and 1 needs no test. Assumes nothing.
 use Rattle.std.proofs.Common.{◌≡◌, ℕ, ◌+◌, ◌-◌, ◌*◌, ◌/◌, ◌%◌, ◌^◌, ◌<◌, ◌≤◌, Bool, true, false, cond, not, ◌||◌, T, eqb, sym, refl, ap, ◌∙◌, le_trans, le_of_eq, lt_of_le_of_lt, lt_of_not-le, not-le_of_lt, le_of_mul-le-mul_right, arith, lit≤, eqb→eq, pow_pos, le-ltb, lt-ltb}
 use native.Mathlib.Decide.{dec_le}
-use lib.Ieee.{Float, nan, inf, fin, binary64, up, down, mul, round, of_int, neg, lt, le, eq, fits, is_nan, of_bits, to_bits}
+use lib.Ieee.{Float, nan, inf, fin, binary64, up, down, mul, round, of_int, neg, lt, eq, fits, is_nan, of_bits, to_bits}
 use lib.Ieee.Fits.{and_l, and_r, down_pos}
 use lib.Ieee.Exact.{HasValue}
 use lib.Ieee.Back.{whole_unique}

@@ -104,7 +104,7 @@ module _ (b : ℕ) (h : 2 ^ 52 ≤ b) (top : b < 2047 * 2 ^ 52) (not_one : b ≡
           left t p q r = simp (mul_assoc) refl
 
           right : (t p s a : ℕ) → t * p * (s * a) ≡ p * (t * s) * a
-          right t p s a = simp (mul_assoc, mul_comm, mul_left_comm) refl
+          right t p s a = simp (mul_assoc, mul_left_comm) refl
 
       some : b / 2 ^ 52 ≤ 1023 → 1023 ≤ b / 2 ^ 52 → (b ≡ 1023 * 2 ^ 52 → ⊥) → 1 ≤ b % 2 ^ 52
       some p q n = omega arith

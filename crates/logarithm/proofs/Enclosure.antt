@@ -50,7 +50,7 @@ module _ {v u w : ℕ} (F : Fixed v u w) {N : ℕ} (n : Enough N) where
           left u s P b = simp (mul_assoc, mul_comm, mul_left_comm) refl
 
           right : (t w B Q : ℕ) → t * (w * B * Q) ≡ t * w * (B * Q)
-          right t w B Q = simp (mul_assoc, mul_comm, mul_left_comm) refl
+          right t w B Q = simp mul_assoc refl
 
   pub not_below : E N (fixed v -q δ) ≤q u // w
   not_below = either (dec_le D (v * 2048))

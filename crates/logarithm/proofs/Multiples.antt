@@ -1,5 +1,5 @@
 -- Multiples of ln 2: e^(n Λ / 2^64) ≤ 2^n ≤ e^(n (Λ + 3) / 2^64). Assumes nothing.
-use Rattle.std.proofs.Common.{◌≡◌, ℕ, zero, suc, ◌+◌, ◌*◌, ◌^◌, ◌<◌, ◌≤◌, ◌∙◌, subst, one-mul, lit<, lit≤}
+use Rattle.std.proofs.Common.{◌≡◌, ℕ, zero, suc, ◌+◌, ◌*◌, ◌^◌, ◌∙◌, subst, one-mul, lit<, lit≤}
 use native.Mathlib.Nat.{pow-zero, pow-succ'}
 use Rattle.series.proofs.Bounds.{Up, Lo, lo_weaken, lo_add, up_pow, lo_pow}
 use Rattle.series.proofs.Differences.{one_plus}

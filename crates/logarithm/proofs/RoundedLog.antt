@@ -1,5 +1,5 @@
 -- The logarithm in fixed point, as a float: within 3/4 of 2^-42. Assumes nothing.
-use Rattle.std.proofs.Common.{◌≡◌, ℕ, ◌+◌, ◌*◌, ◌^◌, ◌<◌, ◌≤◌, false, T, [], ◌∷◌, pos, refl, zero-lt-suc, arith, lit<, lit≤}
+use Rattle.std.proofs.Common.{◌≡◌, ℕ, ◌*◌, ◌^◌, ◌≤◌, false, T, [], ◌∷◌, pos, refl, zero-lt-suc, arith, lit<, lit≤}
 use lib.Ieee.{binary64, of_int, of_bits}
 use lib.Ieee.Scale.{finite}
 use Rattle.exact.specs.Fraction.{◌//◌, nat, ◌+q◌, ◌-q◌, ◌*q◌, absq, ◌≤q◌, ◌≈q◌, Within, leqb}

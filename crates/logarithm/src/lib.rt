@@ -1,4 +1,6 @@
 // The logarithm in fixed point: a table and a polynomial.
+#![tactic(auto)]
+
 ghost use Rattle.std.specs.Prelude.{◌≡◌, ◌+◌, ◌-◌, ◌*◌, ◌/◌, ◌%◌, ◌^◌, ◌<◌, ◌≤◌, if◌then◌else◌, nat_lt};
 ghost use Rattle.exact.specs.Float64.{◌<f◌, +1};
 ghost use Rattle.logarithm.specs.FixedPoint.{near_one, limit, ln_mant_of, twos_of};
@@ -38,7 +40,7 @@ fn twos(n: u64) -> u64
 }
 
 // The natural logarithm of a base as pow_of takes it, in units of 2^-53.
-#[derive(Drop)]
+#[derive(Clone, Copy)]
 pub enum Log {
     // of a NaN, a negative number or an infinity
     Undefined,

@@ -2,14 +2,14 @@
 use mathlib.Core.Path.{sym}
 use mathlib.Core.Bool.{Bool, true, false, cond}
 use mathlib.Core.List.{[], ◌∷◌}
-use Prim.Native.Nat.{ℕ, ◌+◌, ◌*◌, ◌^◌, ◌≤◌, ◌<◌}
+use Prim.Native.Nat.{ℕ, ◌+◌, ◌*◌, ◌^◌, ◌≤◌}
 use native.Mathlib.Nat.{zero-lt-suc, le_trans, not-le_of_lt, mul-one, le_of_eq, one-mul}
 use native.Mathlib.Omega.{arith}
 use lib.Dec.{T, lit≤, lit<}
 use lib.Pow.{pow_pos, pow_mono}
 use lib.Ieee.{Float, inf, binary64, lt, fits}
 use lib.Ieee.Scale.{finite}
-use Rattle.exact.specs.Fraction.{ℚ, ◌//◌, nat, ◌+q◌, ◌-q◌, negq, ◌*q◌, absq, ◌≤q◌, ◌≈q◌, leqb}
+use Rattle.exact.specs.Fraction.{ℚ, ◌//◌, nat, ◌+q◌, negq, ◌*q◌, absq, ◌≤q◌, ◌≈q◌, leqb}
 use Rattle.exact.specs.FloatValue.{value}
 use Rattle.exact.specs.Float64.{◌<f◌, +0}
 use Rattle.exact.proofs.FractionLaws.{≈_refl, ≈_sym, ≤_of_≈, ≤_refl, ≤_trans, *_comm, *_cong, *_mono, +_mono, lit_≤}

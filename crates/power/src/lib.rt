@@ -1,4 +1,6 @@
 // The power of a positive number: e to the product of the exponent and the base's logarithm, in fixed point.
+#![tactic(auto)]
+
 ghost use Rattle.std.specs.Prelude.{◌≡◌, ◌*◌, ◌^◌, ◌≤◌, T, true, cond};
 ghost use Rattle.std.specs.Float.{nan};
 ghost use Rattle.std.specs.Float.Ieee.{le, neg};
@@ -111,13 +113,13 @@ pub fn pow(b: f64, p: f64) -> f64
 }
 
 // ---- several powers of one base, by one logarithm
-#[derive(Drop)]
+#[derive(Clone, Copy)]
 pub struct TwoPowers {
     pub first: f64,
     pub second: f64,
 }
 
-#[derive(Drop)]
+#[derive(Clone, Copy)]
 pub struct FourPowers {
     pub first: f64,
     pub second: f64,

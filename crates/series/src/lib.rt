@@ -1,1 +1,2 @@
 // The partial sums of the exponential series at exact fractions: definitions and laws only, no function.
+#![tactic(auto)]

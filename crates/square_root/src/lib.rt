@@ -1,4 +1,6 @@
 // The square root of an f64, correctly rounded: a guess, of which nothing is claimed, and from it a root of whole numbers that exact comparisons set right.
+#![tactic(auto)]
+
 ghost use Rattle.std.specs.Prelude.{◌≡◌, ◌+◌, ◌*◌, ◌^◌, ◌<◌, ◌≤◌, from_bits, nat_lt};
 ghost use Rattle.std.specs.Float.{binary64};
 ghost use Rattle.square_root.specs.SquareRoot.{nearest_root, sqrt_of};

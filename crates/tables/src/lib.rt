@@ -1,4 +1,6 @@
 // The tables of exp and of ln. They stand apart because a check of a match takes time by the square of its arms.
+#![tactic(auto)]
+
 ghost use Rattle.std.specs.Prelude.{◌≡◌, ◌<◌, get_or};
 ghost use Rattle.tables.specs.ExpTable.{exp_table};
 ghost use Rattle.tables.specs.LnTable.{ln_table, inverse_of};
@@ -192,7 +194,7 @@ pub fn exp_tab(j: u64) -> u64
 }
 
 // 1 / (1 + j / 128) in units of 2^-63, rounded up, and ln(1 + j / 128) in units of 2^-64, rounded down, the last less 2^15.
-#[derive(Drop)]
+#[derive(Clone, Copy)]
 pub struct Row {
     pub inverse: u64,
     pub log: u64,

@@ -1,4 +1,6 @@
 // The product of two 64-bit words as two words.
+#![tactic(auto)]
+
 ghost use Rattle.std.specs.Prelude.{◌≡◌, ◌*◌, ◌/◌, ◌%◌, ◌^◌};
 
 // The upper 64 bits of u * v, from four products of halves. The compiler makes one multiplication of it.
