@@ -139,7 +139,7 @@ keys_in_range p [] h o t = h
 keys_in_range p (e ∷ es) h o t =
     let u = neither (outside_of (meaning_of Table.Card e.key) e.value) _ o in
     let w = neither (tnom_outside (meaning_of Table.Card e.key) e.value) _ t in
-    keys_in_range _ es (assigned_in_range p (meaning_of Table.Card e.key) e.value h u.0 w.0) u.1 w.1
+    keys_in_range (assigned p (meaning_of Table.Card e.key) e.value) es (assigned_in_range p (meaning_of Table.Card e.key) e.value h u.0 w.0) u.1 w.1
 
 -- ---- the defaults
 
@@ -205,7 +205,7 @@ unfolding sizes_of any_outside
 sizes_in_range s [] h o = h
 sizes_in_range s (e ∷ es) h o =
     let u = neither (outside_of (meaning_of Table.Geometry e.key) e.value) _ o in
-    sizes_in_range _ es (sizes_assigned s (meaning_of Table.Geometry e.key) e.value h u.0) u.1
+    sizes_in_range (Geometry.assigned s (meaning_of Table.Geometry e.key) e.value) es (sizes_assigned s (meaning_of Table.Geometry e.key) e.value h u.0) u.1
 
 fresh_in_range : (nrd nrs : Float) → InRange Nrd nrd → InRange Nrs nrs → SizesInRange (fresh_sizes nrd nrs)
 unfolding lt eq le of_bits

@@ -1,11 +1,13 @@
 // From node voltages to the operating point.
+#![tactic(auto)]
+
 ghost use Rattle.std.specs.Prelude.{◌≡◌};
 ghost use Rattle.bias.specs.Bias.{kept_of, channel_answer_of, junction_stamp_at_of, operating_point_of};
 
 use device::{Card, Geometry, OperatingPoint, Scaled};
 
 // The four inner nodes' voltages.
-#[derive(Drop)]
+#[derive(Clone, Copy)]
 pub struct Voltages {
     pub vd: f64,
     pub vg: f64,
@@ -14,7 +16,7 @@ pub struct Voltages {
 }
 
 // The channel's voltages that an evaluation keeps, flipped by polarity and limited.
-#[derive(Drop)]
+#[derive(Clone, Copy)]
 pub struct Kept {
     pub vgs: f64,
     pub vds: f64,
@@ -23,7 +25,7 @@ pub struct Kept {
 // What an evaluation answers: the kept voltages and the threshold flipped, the current not; gds has gmin on top. Callers in C are
 // given it as it is.
 #[repr(C)]
-#[derive(Drop)]
+#[derive(Clone, Copy)]
 pub struct Answer {
     pub vgs: f64,
     pub vds: f64,
@@ -35,7 +37,7 @@ pub struct Answer {
 }
 
 // A junction's conductance and Norton offset, the offset not flipped.
-#[derive(Drop)]
+#[derive(Clone, Copy)]
 pub struct JunctionStamp {
     pub g: f64,
     pub eq: f64,

@@ -1,4 +1,6 @@
 // The gate's Meyer shares and the junctions' depletion laws (mosfet1.rs).
+#![tactic(auto)]
+
 ghost use Rattle.std.specs.Prelude.{◌≡◌};
 ghost use Rattle.capacitance.specs.Meyer.{meyer_of};
 ghost use Rattle.capacitance.specs.Depletion.{q_below_from, cj_above_from, q_above_from, cj_depl_mOf, q_depl_mOf, cj_graded_of, q_graded_of, q_depl_of};
@@ -7,7 +9,7 @@ use channel::Region;
 use elementary::{four_powers, fractional_powers, pow, two_powers};
 
 // The channel's capacitance as shared among gate-source, gate-drain and gate-bulk.
-#[derive(Drop)]
+#[derive(Clone, Copy)]
 pub struct GateShares {
     pub gs: f64,
     pub gd: f64,
@@ -15,7 +17,7 @@ pub struct GateShares {
 }
 
 // What grades a junction at the scaling's temperature: the bottom by mj, the sidewall by mjsw.
-#[derive(Drop)]
+#[derive(Clone, Copy)]
 pub struct Grading {
     pub fc: f64,
     pub pb_t: f64,
@@ -48,7 +50,7 @@ pub fn meyer(at: Region, cox_wl: f64) -> GateShares
 }
 
 // A junction's capacitance and charge.
-#[derive(Drop)]
+#[derive(Clone, Copy)]
 pub struct Depletion {
     pub c: f64,
     pub q: f64,

@@ -1,4 +1,6 @@
 // The card call (the Rust's `from_model_params` of mosfet1.rs).
+#![tactic(auto)]
+
 ghost use Rattle.std.specs.Prelude.{◌≡◌, false, length};
 ghost use Rattle.entries.specs.Entries.{entries_of, bad_pairs};
 ghost use Rattle.keys.specs.declared.Meaning.TheVariants.{Sets};
@@ -16,7 +18,7 @@ use temperature::Celsius;
 const EPS_OX: f64 = 3.9 * 8.854187817e-12;
 
 // What the keys of a card say: values, and which of KP, RD and RS were given.
-#[derive(Drop)]
+#[derive(Clone, Copy)]
 pub struct Parameters {
     pub vto: f64,
     pub kp: f64,
@@ -48,7 +50,7 @@ pub struct Parameters {
 }
 
 // The device and the count of unknown keys, or the number of the refusal.
-#[derive(Drop)]
+#[derive(Clone, Copy)]
 pub enum CardAnswer {
     Done(Mosfet1, usize),
     Refused(u8),

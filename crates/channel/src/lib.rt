@@ -1,9 +1,11 @@
 // The channel: its region and the Shichman-Hodges current (`eval` in mosfet1.rs).
+#![tactic(auto)]
+
 ghost use Rattle.std.specs.Prelude.{◌≡◌};
 ghost use Rattle.channel.specs.Channel.{region_of, triode_of, saturation_of, shichman_hodges_of, norton_current_of};
 
 // Where the channel stands.
-#[derive(Drop)]
+#[derive(Clone, Copy)]
 pub enum Region {
     Cutoff,
     Triode,
@@ -11,7 +13,7 @@ pub enum Region {
 }
 
 // The drain current and its slopes by vgs, vds and vbs.
-#[derive(Drop)]
+#[derive(Clone, Copy)]
 pub struct Channel {
     pub ids: f64,
     pub gm: f64,

@@ -1,4 +1,6 @@
 // The capacitances and charges of a transient evaluation.
+#![tactic(auto)]
+
 ghost use Rattle.std.specs.Prelude.{◌≡◌};
 ghost use Rattle.charges.specs.Charges.{grading_of, gate_shares_of, charges_of};
 

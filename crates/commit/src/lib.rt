@@ -1,4 +1,6 @@
 // The device after an accepted commit (`commit_timestep` of mosfet1.rs). Its definitions are in `mosfet1`.
+#![tactic(auto)]
+
 ghost use Rattle.std.specs.Prelude.{◌≡◌};
 ghost use Rattle.mosfet1.specs.Steps.{committed_histories_of, committed_point_of, committed_of};
 

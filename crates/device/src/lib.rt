@@ -1,5 +1,7 @@
 // The device record and the types of its calls (the Rust's device.rs, and `Mosfet1` of mosfet1.rs).
 // Structs of numbers alone are laid out as in C, so that the record for C holds them as they are.
+#![tactic(auto)]
+
 ghost use Rattle.std.specs.Prelude.{◌≡◌};
 ghost use Rattle.device.specs.Limits.{within, outside_temperatures};
 ghost use Rattle.device.specs.Stages.{stage_number, before};
@@ -7,21 +9,21 @@ ghost use Rattle.device.specs.Stages.{stage_number, before};
 use temperature::Kelvin;
 
 // A node of the circuit: ground, or the number of its row.
-#[derive(Drop)]
+#[derive(Clone, Copy)]
 pub enum NodeId {
     Ground,
     At(usize),
 }
 
 // A value that may be absent (`Option<f64>`).
-#[derive(Drop)]
+#[derive(Clone, Copy)]
 pub enum Given {
     Absent,
     Value(f64),
 }
 
 // An integration method with its own step lengths, h and the earlier h.
-#[derive(Drop)]
+#[derive(Clone, Copy)]
 pub enum Discretisation {
     None,
     Euler(f64),
@@ -30,7 +32,7 @@ pub enum Discretisation {
 }
 
 // How far a device has come.
-#[derive(Drop)]
+#[derive(Clone, Copy)]
 pub enum Stage {
     Card,
     Geometry,
@@ -73,7 +75,7 @@ pub fn outside_temperatures(t: Kelvin) -> bool
 }
 
 // What the card says.
-#[derive(Drop)]
+#[derive(Clone, Copy)]
 pub struct Card {
     pub vto: f64,
     pub kp: f64,
@@ -103,7 +105,7 @@ pub struct Card {
 
 // The instance's geometry, and what follows from it and the card.
 #[repr(C)]
-#[derive(Drop)]
+#[derive(Clone, Copy)]
 pub struct Geometry {
     pub rd: f64,
     pub rs: f64,
@@ -130,7 +132,7 @@ pub struct Geometry {
 
 // The parameters at the scaling's temperature.
 #[repr(C)]
-#[derive(Drop)]
+#[derive(Clone, Copy)]
 pub struct Scaled {
     pub isat_t_factor: f64,
     pub pb_t: f64,
@@ -142,7 +144,7 @@ pub struct Scaled {
 }
 
 // The nodes: the external drain and source, and the four of the intrinsic channel.
-#[derive(Drop)]
+#[derive(Clone, Copy)]
 pub struct Terminals {
     pub drain_ext: NodeId,
     pub source_ext: NodeId,
@@ -154,7 +156,7 @@ pub struct Terminals {
 
 // What the last evaluation left: conductances, offsets, the current and the kept voltages.
 #[repr(C)]
-#[derive(Drop)]
+#[derive(Clone, Copy)]
 pub struct OperatingPoint {
     pub ids_eval: f64,
     pub gbs: f64,
@@ -171,7 +173,7 @@ pub struct OperatingPoint {
 
 // What the last transient evaluation left: capacitances, charges and the junctions' voltages.
 #[repr(C)]
-#[derive(Drop)]
+#[derive(Clone, Copy)]
 pub struct Charges {
     pub cgs_eval: f64,
     pub cgd_eval: f64,
@@ -188,14 +190,14 @@ pub struct Charges {
 }
 
 // A charge branch's past: the last charge, the one before it, and the last current.
-#[derive(Drop)]
+#[derive(Clone, Copy)]
 pub struct ChargeHistory {
     pub q_prev: f64,
     pub q_prev2: Given,
     pub i_prev: f64,
 }
 
-#[derive(Drop)]
+#[derive(Clone, Copy)]
 pub struct Histories {
     pub gs_hist: ChargeHistory,
     pub gd_hist: ChargeHistory,
@@ -205,7 +207,7 @@ pub struct Histories {
 }
 
 // The device.
-#[derive(Drop)]
+#[derive(Clone, Copy)]
 pub struct Mosfet1 {
     pub card: Card,
     pub geometry: Geometry,

@@ -1,5 +1,5 @@
 -- What the rows of the keys leave: where they pass, and where they refuse.
-use mathlib.Core.Path.{◌≡◌, ap}
+use mathlib.Core.Path.{◌≡◌, ◌∙◌, sym, ap}
 use mathlib.Core.Bool.{Bool, false}
 use mathlib.Core.List.{List, ◌++◌}
 use Prim.Native.Nat.{ℕ, ◌≤◌}
@@ -8,7 +8,9 @@ use lib.Ieee.{Float}
 use Rattle.device.specs.Refusals.{Row, unless, done, refused}
 use Rattle.device.proofs.Rows.{NoneOf, passed, refused_first}
 use Rattle.keys.specs.declared.Table.{Table}
-use Rattle.entries.specs.Entries.{entries_of, bad_pairs, unknown_count, any_tnom_outside, key_rows, keys_of, KeysRead}
+use Rattle.entries.specs.Entries.{entries_of, bad_pairs, unknown_count, any_tnom_outside, key_rows, keys_of, outcome_of_keys, KeysRead}
+use Rattle.entries.specs.declared.KeysAnswer.{KeysAnswer}
+use Rattle.entries.specs.declared.KeysAnswer.TheVariants.{Passed}
 
 -- what rows 1 to 4 leave
 pub record Passing (table : Table) (bytes offsets lengths : List ℕ) (values : List Float) (space m : ℕ) (b : Bool) : Type 0 where
@@ -28,3 +30,7 @@ module _ (table : Table) (bytes offsets lengths : List ℕ) (values : List Float
   pub refused_keys : {A : Type 0} (n : ℕ) (later : List Row) (refuse : ℕ → A) (x : A) → keys_of table bytes offsets lengths values space ≡ refused n → refuse n ≡ unless (key_rows table bytes offsets lengths values space ++ later) refuse x
   unfolding keys_of
   refused_keys n later refuse x e = refused_first (key_rows table bytes offsets lengths values space) later _ refuse x e
+
+-- what an answer that passes the keys leaves
+pub answered : {table : Table} {bytes offsets lengths : List ℕ} {values : List Float} {space m : ℕ} {b : Bool} {answer : KeysAnswer} → outcome_of_keys answer ≡ keys_of table bytes offsets lengths values space → answer ≡ Passed m b → Passing table bytes offsets lengths values space m b
+answered said passed_is = passing _ _ _ _ _ _ _ _ (sym said ∙ ap outcome_of_keys passed_is)

@@ -1,4 +1,6 @@
 // The keys of a call with their values: rows 1 to 4 of the refusals, and the places of the unknown keys.
+#![tactic(auto)]
+
 ghost use Rattle.std.specs.Prelude.{◌≡◌, true, false, cond, ◌||◌, ◌+◌, ◌≤◌, ◌<◌, ◌^◌, length, set};
 ghost use Rattle.std.proofs.lemmas.List.Edits.{sets};
 ghost use Rattle.keys.specs.Names.{meaning_of};
@@ -19,7 +21,7 @@ use keys::{Meaning, Table};
 
 // What a pass over the keys finds: a byte of 128 or more, the count of unknown keys, a value outside its range, a nominal
 // temperature outside the limits.
-#[derive(Drop)]
+#[derive(Clone, Copy)]
 pub struct Scan {
     pub beyond_ascii: bool,
     pub unknown: usize,
@@ -29,7 +31,7 @@ pub struct Scan {
 
 // What rows 1 to 4 leave: the count of unknown keys, and whether a nominal temperature lies outside the limits; or the number of
 // the refusal.
-#[derive(Drop)]
+#[derive(Clone, Copy)]
 pub enum KeysAnswer {
     Passed(usize, bool),
     Refused(u8),

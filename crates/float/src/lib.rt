@@ -1,4 +1,6 @@
 // The methods of Rust's f64 that the model calls.
+#![tactic(auto)]
+
 ghost use Rattle.std.specs.Prelude.{◌≡◌};
 ghost use Rattle.exact.specs.Float64.{absolute, signum, maximum};
 

@@ -1,4 +1,6 @@
 // The geometry call (the Rust's `set_instance_params` and `validate` of mosfet1.rs).
+#![tactic(auto)]
+
 ghost use Rattle.std.specs.Prelude.{◌≡◌, false, ◌&&◌, length};
 ghost use Rattle.exact.specs.Float64.{◌>f◌, +0};
 ghost use Rattle.entries.specs.Entries.{entries_of, bad_pairs};
@@ -24,7 +26,7 @@ use entries::KeysAnswer;
 use keys::{Key, Meaning, Table};
 
 // What the keys of a geometry call say.
-#[derive(Drop)]
+#[derive(Clone, Copy)]
 pub struct Sizes {
     pub w: f64,
     pub l: f64,
@@ -37,7 +39,7 @@ pub struct Sizes {
 }
 
 // The device and the count of unknown keys, or the number of the refusal.
-#[derive(Drop)]
+#[derive(Clone, Copy)]
 pub enum GeometryAnswer {
     Done(Mosfet1, usize),
     Refused(u8),

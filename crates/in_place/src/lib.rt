@@ -1,4 +1,6 @@
 // The commit of a device where it lies.
+#![tactic(auto)]
+
 ghost use Rattle.std.specs.Prelude.{◌≡◌};
 ghost use Rattle.model.specs.Calls.{commit_of};
 ghost use Rattle.device.specs.Refusals.{number, values_or};

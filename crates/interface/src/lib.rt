@@ -1,4 +1,6 @@
 // What a caller's object is held to before its first call (include/mivtolgya.h: `mivtolgya_check_interface`). `mivtolgya` exports both.
+#![tactic(auto)]
+
 ghost use Rattle.std.specs.Prelude.{◌≡◌};
 ghost use Rattle.interface.specs.Interface.{interface_version, device_size};
 

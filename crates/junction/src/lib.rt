@@ -1,4 +1,6 @@
 // The bulk junctions: `SimContext::vt` of device.rs and `bulk_junction` of mosfet1.rs.
+#![tactic(auto)]
+
 ghost use Rattle.std.specs.Prelude.{◌≡◌};
 ghost use Rattle.junction.specs.Junction.{thermal_voltage_of, junction_exponential_of, junction_at_of, bulk_junction_of, junction_offset_of};
 
@@ -10,7 +12,7 @@ const K_BOLTZMANN: f64 = 1.380649e-23;
 const Q_ELECTRON: f64 = 1.602176634e-19;
 
 // A junction's current and conductance.
-#[derive(Drop)]
+#[derive(Clone, Copy)]
 pub struct Junction {
     pub i: f64,
     pub g: f64,

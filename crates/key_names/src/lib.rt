@@ -1,4 +1,6 @@
 // The names of keys: a key's bytes are compared with all names at once, as one number.
+#![tactic(auto)]
+
 ghost use Rattle.std.specs.Prelude.{◌≡◌, ◌≤◌, length};
 ghost use Rattle.keys.specs.Names.{lower_of, card_names, geometry_names, meaning_of};
 ghost use Rattle.key_names.specs.Packing.{packed_of, numbered};

@@ -1,4 +1,6 @@
 // Row 1: the pairs of offset and length that cut keys out of bytes.
+#![tactic(auto)]
+
 ghost use Rattle.std.specs.Prelude.{◌≡◌, length};
 ghost use Rattle.key_pairs.specs.Pairs.{pairs_astray, bad_pairs};
 

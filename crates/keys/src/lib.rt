@@ -1,11 +1,13 @@
 // The keys of a card and of a geometry call: what they can mean, and which values they take.
+#![tactic(auto)]
+
 ghost use Rattle.std.specs.Prelude.{◌≡◌};
 ghost use Rattle.keys.specs.Ranges.{range_of, outside_range, outside_of, tnom_outside, is_unknown};
 
 use temperature::Celsius;
 
 // The parameters that a key can set.
-#[derive(Drop)]
+#[derive(Clone, Copy)]
 pub enum Key {
     Vto,
     Kp,
@@ -42,7 +44,7 @@ pub enum Key {
 }
 
 // What a key means: it sets a parameter or the nominal temperature, is accepted unread, or is not known.
-#[derive(Drop)]
+#[derive(Clone, Copy)]
 pub enum Meaning {
     Sets(Key),
     Tnom,
@@ -51,14 +53,14 @@ pub enum Meaning {
 }
 
 // The calls that read keys.
-#[derive(Drop)]
+#[derive(Clone, Copy)]
 pub enum Table {
     Card,
     Geometry,
 }
 
 // A parameter's least and greatest value, ends included; `ZeroOr` lets 0 pass too.
-#[derive(Drop)]
+#[derive(Clone, Copy)]
 pub enum Range {
     Within(f64, f64),
     ZeroOr(f64, f64),

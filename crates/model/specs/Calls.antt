@@ -7,9 +7,7 @@ use Rattle.mosfet1.specs.declared.steps.Conditions.{Conditions}
 use Rattle.mosfet1.specs.declared.steps.Evaluated.{Evaluated}
 use Rattle.rows.specs.Rows.{voltages_of, eval_rows, commit_rows}
 use Rattle.model.specs.declared.calls.Evaluation.{Evaluation}
-use Rattle.model.specs.declared.calls.Evaluation.TheVariants as Evaluation
 use Rattle.model.specs.declared.calls.Commit.{Commit}
-use Rattle.model.specs.declared.calls.Commit.TheVariants as Commit
 
 -- Evaluation and Commit by their cases
 abbrev pub outcome_of_evaluation : Evaluation → Outcome Evaluated

@@ -10,12 +10,10 @@ use Rattle.device.specs.declared.Mosfet1.{Mosfet1}
 use Rattle.noise.specs.Noise.{thermal_noise_of, flicker_noise_of}
 use Rattle.rows.specs.Rows.{noise_rows, reactance_rows}
 use Rattle.model.specs.declared.small_signal.Noise.{Noise}
-use Rattle.model.specs.declared.small_signal.Noise.TheVariants as Noise
 use Rattle.model.specs.declared.small_signal.Reactance.{Reactance}
 use Rattle.model.specs.declared.small_signal.Reactance.TheVariants.{Absent, Capacitor}
 use Rattle.model.specs.declared.small_signal.FiveReactances.{FiveReactances}
 use Rattle.model.specs.declared.small_signal.Reactances.{Reactances}
-use Rattle.model.specs.declared.small_signal.Reactances.TheVariants as Reactances
 
 -- thermal and flicker noise of the last evaluation; W L COX is (W L) COX
 unfoldable pub density_of : Mosfet1 → Kelvin → Float → Float

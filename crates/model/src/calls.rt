@@ -6,14 +6,14 @@ use device::Mosfet1;
 use mosfet1::steps::{Conditions, Evaluated};
 
 // The device after the evaluation with what it answers, or the row that refuses it.
-#[derive(Drop)]
+#[derive(Clone, Copy)]
 pub enum Evaluation {
     Done(Evaluated),
     Refused(u8),
 }
 
 // The device after the commit, or the row that refuses it.
-#[derive(Drop)]
+#[derive(Clone, Copy)]
 pub enum Commit {
     Done(Mosfet1),
     Refused(u8),

@@ -2,7 +2,7 @@
 use device::NodeId;
 
 // One source from drain to source with its density, none, or the row that refuses the call.
-#[derive(Drop)]
+#[derive(Clone, Copy)]
 pub enum Noise {
     Quiet,
     Source(NodeId, NodeId, f64),
@@ -10,13 +10,13 @@ pub enum Noise {
 }
 
 // A capacitor between two nodes, or none.
-#[derive(Drop)]
+#[derive(Clone, Copy)]
 pub enum Reactance {
     Absent,
     Capacitor(NodeId, NodeId, f64),
 }
 
-#[derive(Drop)]
+#[derive(Clone, Copy)]
 pub struct FiveReactances {
     pub gs: Reactance,
     pub gd: Reactance,
@@ -25,7 +25,7 @@ pub struct FiveReactances {
     pub bd: Reactance,
 }
 
-#[derive(Drop)]
+#[derive(Clone, Copy)]
 pub enum Reactances {
     Found(FiveReactances),
     Refused(u8),

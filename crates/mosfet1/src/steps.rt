@@ -7,7 +7,7 @@ use device::{Charges, Discretisation, Mosfet1, OperatingPoint, Stage};
 use temperature::Kelvin;
 
 // What an evaluation is handed besides the voltages. The temperature is read for the thermal voltage only.
-#[derive(Drop)]
+#[derive(Clone, Copy)]
 pub struct Conditions {
     pub temperature: Kelvin,
     pub gmin: f64,
@@ -16,14 +16,14 @@ pub struct Conditions {
 }
 
 // The device after an evaluation, and what it answers.
-#[derive(Drop)]
+#[derive(Clone, Copy)]
 pub struct Evaluated {
     pub device: Mosfet1,
     pub answer: Answer,
 }
 
 // What an evaluation answers, and the operating point that it leaves.
-#[derive(Drop)]
+#[derive(Clone, Copy)]
 pub struct AnswerAndPoint {
     pub answer: Answer,
     pub point: OperatingPoint,

@@ -1,4 +1,6 @@
 // The channel's noise densities (`noise_sources` of mosfet1.rs).
+#![tactic(auto)]
+
 ghost use Rattle.std.specs.Prelude.{◌≡◌};
 ghost use Rattle.noise.specs.Noise.{thermal_noise_of, flicker_noise_of};
 

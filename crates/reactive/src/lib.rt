@@ -1,4 +1,6 @@
 // Charge branches: the integration methods and a branch's past (`charge_current`, `conductance` and `ChargeHistory` of reactive.rs).
+#![tactic(auto)]
+
 ghost use Rattle.std.specs.Prelude.{◌≡◌};
 ghost use Rattle.reactive.specs.Charge.{euler_of, trapezoid_of, gear_of, charge_current_of, euler_conductance_of, trapezoid_conductance_of, gear_conductance_of, scale_of, companion_of, has_step_of, recorded_of, advance_of};
 
@@ -6,7 +8,7 @@ use device::{ChargeHistory, Discretisation, Given};
 use float::max;
 
 // A branch's current at a charge, and the factor of the charge in it.
-#[derive(Drop)]
+#[derive(Clone, Copy)]
 pub struct Branch {
     pub i: f64,
     pub scale: f64,

@@ -1,5 +1,7 @@
 // The row that refuses a noise call, and reading the lent voltages. The rows of an evaluation and a commit are in `step_rows`; the
 // definition of each row, and of each call's rows as a whole, is here.
+#![tactic(auto)]
+
 ghost use Rattle.std.specs.Prelude.{◌≡◌};
 ghost use Rattle.device.specs.Stages.{unevaluated};
 ghost use Rattle.rows.specs.Rows.{node_voltage_of, voltages_of, noise_row_of};

@@ -1,4 +1,6 @@
 // How potentials, junction capacitances and the threshold move with temperature (the Rust's temperature.rs, its second half).
+#![tactic(auto)]
+
 ghost use Rattle.std.specs.Prelude.{◌≡◌};
 ghost use Rattle.temperature.specs.Temperature.{scaled_phi_of, scaled_junction_potential_of, junction_cap_factor_of, scaled_vto_of, phio_of, cap_term_of, body_term_of};
 

@@ -12,7 +12,6 @@ use Rattle.device.specs.declared.Card.{Card}
 use Rattle.device.specs.declared.Mosfet1.{Mosfet1}
 use Rattle.device.specs.declared.Scaled.{Scaled}
 use Rattle.device.specs.declared.Stage.{Stage}
-use Rattle.device.specs.declared.Stage.TheVariants as Stage
 use Rattle.setup.specs.declared.SetupAnswer.{SetupAnswer}
 use Rattle.setup.specs.declared.SetupAnswer.TheVariants.{Done, Refused}
 

@@ -1,5 +1,7 @@
 // Scaling at a temperature and binding to nodes (the Rust's `setup_model`, `setup_instance`, `num_extra_nodes` and
 // `bind_extra_nodes` of mosfet1.rs).
+#![tactic(auto)]
+
 ghost use Rattle.std.specs.Prelude.{◌≡◌, ◌+◌, ◌<◌, ◌^◌};
 ghost use Rattle.device.specs.Nodes.{node_beyond, any_node_beyond};
 ghost use Rattle.setup.specs.Scaling.{
@@ -26,7 +28,7 @@ use device::{Card, Mosfet1, NodeId, Scaled, Stage, Terminals};
 use temperature::Kelvin;
 
 // The device after a scaling or a binding, or the number of the refusal.
-#[derive(Drop)]
+#[derive(Clone, Copy)]
 pub enum SetupAnswer {
     Done(Mosfet1),
     Refused(u8),

@@ -1,4 +1,6 @@
 // Noise and reactances at the operating point (`noise_sources` and `small_signal_reactances` of mosfet1.rs).
+#![tactic(auto)]
+
 ghost use Rattle.std.specs.Prelude.{◌≡◌};
 ghost use Rattle.model.specs.SmallSignal.{density_of, outcome_of_noise, noise_of, reactance_of, five_of, outcome_of_reactances, reactances_of};
 

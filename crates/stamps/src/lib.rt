@@ -1,19 +1,21 @@
 // What a load adds: the 24 Jacobian values and their positions, the right-hand side's three values, the five charge branches
 // (`jac_pairs`, `load_jacobian`, `load_residual`, `load_jacobian_tran`, `load_residual_tran` of mosfet1.rs).
+#![tactic(auto)]
+
 ghost use Rattle.std.specs.Prelude.{◌≡◌};
 ghost use Rattle.stamps.specs.Stamps.{jac_pairs_of, series_of, jac_values_of, residual_of, branch_of, has_junction_of, junction_branch_of, charge_branches_of};
 
 use device::{ChargeHistory, Discretisation, Mosfet1, NodeId, Terminals};
 
 // A matrix position by the nodes of its row and column.
-#[derive(Drop)]
+#[derive(Clone, Copy)]
 pub struct Position {
     pub row: NodeId,
     pub col: NodeId,
 }
 
 // The right-hand side's values: the channel's and the two junctions' Norton currents.
-#[derive(Drop)]
+#[derive(Clone, Copy)]
 pub struct Residual {
     pub jeq: f64,
     pub ibs_eq: f64,
@@ -21,7 +23,7 @@ pub struct Residual {
 }
 
 // A charge branch: its nodes, its conductance, loaded where the evaluated capacitance is not zero, and its history current.
-#[derive(Drop)]
+#[derive(Clone, Copy)]
 pub struct ChargeBranch {
     pub pos: NodeId,
     pub neg: NodeId,
@@ -31,7 +33,7 @@ pub struct ChargeBranch {
     pub history: f64,
 }
 
-#[derive(Drop)]
+#[derive(Clone, Copy)]
 pub struct ChargeBranches {
     pub gs: ChargeBranch,
     pub gd: ChargeBranch,

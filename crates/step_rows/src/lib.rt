@@ -1,5 +1,7 @@
 // The rows that refuse an evaluation and a commit. Their definitions are in `rows`. Those of an evaluation are asked in two parts
 // (`specs/StepRows`), so that the caller reads the voltages once, between them.
+#![tactic(auto)]
+
 ghost use Rattle.std.specs.Prelude.{◌≡◌, ◌||◌};
 ghost use Rattle.device.specs.Nodes.{node_beyond, any_node_beyond};
 ghost use Rattle.device.specs.Stages.{unbound};

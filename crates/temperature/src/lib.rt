@@ -1,5 +1,7 @@
 // The temperature scales, silicon's bandgap, and the factors that rest on it (the Rust's temperature.rs). The potentials, junction
 // capacitances and the threshold are in `scaling`; all of their definitions are here.
+#![tactic(auto)]
+
 ghost use Rattle.std.specs.Prelude.{◌≡◌};
 ghost use Rattle.temperature.specs.Temperature.{kelvin_of, tnom_default, bandgap_ev_of, mos_junction_is_factor_of, pbfact_of, mobility_factor_of};
 
@@ -14,11 +16,11 @@ const CHARGE: f64 = 1.6021918e-19;
 pub const REFTEMP_K: f64 = 300.15;
 
 // A temperature in degrees Celsius, as a card gives it.
-#[derive(Drop)]
+#[derive(Clone, Copy)]
 pub struct Celsius(pub f64);
 
 // A temperature in kelvin, as everything else takes it.
-#[derive(Drop)]
+#[derive(Clone, Copy)]
 pub struct Kelvin(pub f64);
 
 // The one place where degrees Celsius become kelvin.

@@ -12,7 +12,7 @@ use Rattle.exact.proofs.Constants.{value_+0}
 use Rattle.exact.proofs.FractionLaws.{≤_of_≈, lit_≤}
 use Rattle.exact.proofs.StrictOrder.{≤_<_trans, <_≤_trans, lit_<}
 use Rattle.temperature.specs.Temperature.{pbfact_of, pbfact_arg_of, phio_of, scaled_phi_of, unless_above0}
-use Rattle.temperature.specs.Constants.{boltz, reftemp_k, two}
+use Rattle.temperature.specs.Constants.{boltz, reftemp_k}
 use Rattle.temperature.specs.declared.Kelvin.{Kelvin}
 use Rattle.exact.specs.Size.{Range}
 use Rattle.exact.proofs.Computing.{computing}

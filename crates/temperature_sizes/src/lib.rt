@@ -1,1 +1,2 @@
 // The sizes and signs of what the temperature functions give: laws only, no function.
+#![tactic(auto)]

@@ -1,4 +1,6 @@
 // The limiter and the threshold voltage (the first half of `eval` in mosfet1.rs).
+#![tactic(auto)]
+
 ghost use Rattle.std.specs.Prelude.{◌≡◌};
 ghost use Rattle.elementary.specs.Functions.{sqrt_of};
 ghost use Rattle.threshold.specs.Limiter.{limited_vgs_of, limited_vds_of};

@@ -1,0 +1,10 @@
+use Rattle.setup.proofs.scaled_stage.Goals as goal
+-- `setup::scaled_stage` meets its contract.
+-- Assumes nothing.
+use Rattle.device.proofs.Branches.{cond_yes, cond_no, tested}
+
+pub returns-then-before : goal.returns-then-before
+returns-then-before c = cond_yes _ _ (tested c.before-2.ensures c.if-before.true)
+
+pub returns-else-before : goal.returns-else-before
+returns-else-before c = cond_no _ _ (tested c.before-2.ensures c.if-before.false)
