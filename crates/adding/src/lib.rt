@@ -1,5 +1,7 @@
 // Adding a device's contributions to the matrix and the right-hand side, at places that are known (`load_jacobian`,
 // `load_residual`, `stamp_g_pair` and `stamp_hist` of mosfet1.rs).
+#![tactic(auto)]
+
 ghost use Rattle.std.specs.Prelude.{◌≡◌, cond, [], length};
 ghost use Rattle.places.specs.Places.{node_at, terminals_at};
 ghost use Rattle.adding.specs.Adding.{add_at, add_node, add_sources, current_pair, offset_sources, source_contributions, add_all, add_four, add_branches};

@@ -3,7 +3,7 @@
 use mathlib.Core.Path.{◌≡◌, refl, sym, ap, ◌∙◌, subst}
 use mathlib.Core.Bool.{Bool, true, false, cond, not, ◌&&◌, ◌||◌}
 use mathlib.Core.List.{List, [], ◌∷◌, ◌++◌}
-use Prim.Native.Nat.{ℕ, ◌+◌, ◌≤◌, ◌<◌}
+use Prim.Native.Nat.{ℕ, ◌≤◌, ◌<◌}
 use native.Mathlib.Nat.{suc_inj, suc-ne-zero}
 use native.Mathlib.Omega.{arith}
 use lib.ListN.{length, get_or}
@@ -218,9 +218,9 @@ module _ (P : Pattern) (t : Terminals) (b : ChargeBranches) where
         four_adds P t.bulk t.drain (get_or jacobian_places 16 0) (get_or jacobian_places 21 0) (get_or jacobian_places 1 0) (get_or jacobian_places 3 0) b.bd.conductance b.bd.conducts (λ _. four_bd) x4 r4,
       )
 
-  branches_there : Small P → branches_there jacobian_places gate_places b ≡ (all_there P gs_cells && all_there P gd_cells && all_there P gb_cells && all_there P bs_cells && all_there P bd_cells)
+  branches_there_lem : Small P → branches_there jacobian_places gate_places b ≡ (all_there P gs_cells && all_there P gd_cells && all_there P gb_cells && all_there P bs_cells && all_there P bd_cells)
   unfolding branches_there branch_cells
-  branches_there s =
+  branches_there_lem s =
       rw (
         four_there_lem P t.gate t.source gate_places.gg gate_places.gs (get_or jacobian_places 6 0) (get_or jacobian_places 4 0) b.gs.conductance s b.gs.conducts four_gs,
         four_there_lem P t.gate t.drain gate_places.gg gate_places.gd (get_or jacobian_places 1 0) (get_or jacobian_places 0 0) b.gd.conductance s b.gd.conducts four_gd,
@@ -242,5 +242,5 @@ module _ (P : Pattern) (t : Terminals) (b : ChargeBranches) where
   unfolding matrix_contributions jac_pairs_of
   all_found s jacobian e =
       rw
-      (numbers_there P s (jac_pairs_of t) jacobian (sym e), branches_there s, there_append, there_append, there_append, there_append, there_append)
+      (numbers_there P s (jac_pairs_of t) jacobian (sym e), branches_there_lem s, there_append, there_append, there_append, there_append, there_append)
       (and_last (all_there P (paired (jac_pairs_of t) jacobian)) (all_there P gs_cells) (all_there P gd_cells) (all_there P gb_cells) (all_there P bs_cells) (all_there P bd_cells))

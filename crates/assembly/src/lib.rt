@@ -1,5 +1,7 @@
 // Adding a device's contributions to the matrix and the right-hand side (`load_jacobian`, `load_residual` and their transient
 // forms of mosfet1.rs, over the pattern of mna.rs). All needed cells are looked up before the first is written.
+#![tactic(auto)]
+
 ghost use Rattle.std.specs.Prelude.{◌≡◌, true, length};
 ghost use Rattle.pattern.specs.Pattern.{well_formed};
 ghost use Rattle.places.specs.Places.{nodes_of, terminals_at};
@@ -23,7 +25,7 @@ pub fn assemble(
     lengths: &[usize],
 ) -> bool
     requires { (well_formed columns.now offsets.now lengths.now (length columns.now) ≡ true) × (terminals_at (nodes_of t) ≡ t) }
-    ensures { Assembled (record { columns = columns.entry.now; offsets = offsets.now; lengths = lengths.now }) (matrix_contributions t jacobian b) (source_contributions t o b) values.old rhs.old result values.new rhs.new }
+    ensures { Assembled (record { columns = columns.now; offsets = offsets.now; lengths = lengths.now }) (matrix_contributions t jacobian b) (source_contributions t o b) values.old rhs.old result values.new rhs.new }
 {
     let n = places::indices(t);
     let cells = places::look_up(columns, offsets, lengths, n, b);

@@ -10,7 +10,7 @@ use lib.ListN.{length, get_or, drop, drop_of_length-le}
 use lib.Seq.{drop-cons}
 use lib.Dec.{T, eqb, leb, ltb}
 use borrow.Author.Tests.{eq-eqb, ne_eqb, lt-ltb, le-ltb, ltb-true, ltb-false, eqb-true, leb-false}
-use Rattle.bridge.specs.Runs.{any_of, Run, end_of, overlap, any_overlap, leaves, runs_of, bad_runs, bridge_refused, block_refused}
+use Rattle.bridge.specs.Runs.{any_of, Run, overlap, any_overlap, leaves, runs_of, bad_runs, bridge_refused, block_refused}
 
 pub neither : (a b : Bool) → (a || b) ≡ false → (a ≡ false) × (b ≡ false)
 neither true b e = absurd (subst T e tt)

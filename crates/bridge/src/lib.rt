@@ -1,4 +1,6 @@
 // Row 14 of the refusals: the runs of rows that the blocks of a bridge own in the shared right-hand side.
+#![tactic(auto)]
+
 ghost use Rattle.std.specs.Prelude.{◌≡◌, length, drop};
 ghost use Rattle.bridge.specs.Runs.{any_of, leaves, overlap, any_overlap, runs_of, bad_runs, bridge_refused, block_refused};
 ghost use Rattle.bridge.specs.Steps.{rising};

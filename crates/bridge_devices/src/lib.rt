@@ -1,5 +1,7 @@
 // The part of one device in the load of a block or a bridge, on a pattern that was tested once for all of them: which row refuses it, asked
 // before anything is written, and its contributions.
+#![tactic(auto)]
+
 ghost use Rattle.std.specs.Prelude.{◌≡◌, true, length};
 ghost use Rattle.pattern.specs.Pattern.{well_formed};
 ghost use Rattle.device.specs.Refusals.{done};
@@ -37,7 +39,7 @@ pub fn device_row(
     lengths: &[usize],
 ) -> u8
     requires { well ≡ true → well_formed columns.now offsets.now lengths.now (length columns.now) ≡ true }
-    ensures { result ≡ device_row d kind (record { columns = columns.entry.now; offsets = offsets.now; lengths = lengths.now }) well rows }
+    ensures { result ≡ device_row d kind (record { columns = columns.now; offsets = offsets.now; lengths = lengths.now }) well rows }
 {
     let stage = d.stage;
     let disc = d.disc;
@@ -73,7 +75,7 @@ pub fn add_device(
     lengths: &[usize],
 )
     requires { load_of d kind (record { columns = columns.now; offsets = offsets.now; lengths = lengths.now }) rhs.old values.old ≡ done tt }
-    ensures { Loaded d kind (record { columns = columns.entry.now; offsets = offsets.now; lengths = lengths.now }) rhs.old values.old (done tt) rhs.new values.new }
+    ensures { Loaded d kind (record { columns = columns.now; offsets = offsets.now; lengths = lengths.now }) rhs.old values.old (done tt) rhs.new values.new }
 {
     let jacobian = stamps::jac_values(d);
     let residual = stamps::residual_values(d);

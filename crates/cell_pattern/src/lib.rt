@@ -1,4 +1,6 @@
 // A device's cells laid out as a matrix pattern in three lent slices.
+#![tactic(auto)]
+
 ghost use Rattle.std.specs.Prelude.{◌≡◌, true, false, suc, ◌+◌, ◌≤◌, ◌<◌, ◌/◌, ◌%◌, length, take};
 ghost use Rattle.pattern.specs.Pattern.{rising};
 ghost use Rattle.device.specs.Nodes.{node_beyond, any_node_beyond};
@@ -10,7 +12,7 @@ use cells::CellList;
 use device::{NodeId, Terminals};
 
 // The lengths that the pattern needs: of the columns, and of the offsets and the lengths.
-#[derive(Drop)]
+#[derive(Clone, Copy)]
 pub struct Needed {
     pub columns: usize,
     pub rows: usize,

@@ -1,4 +1,6 @@
 // The list of the cells that a device may ever load, by its nodes: before any evaluation, and for every one.
+#![tactic(auto)]
+
 ghost use Rattle.std.specs.Prelude.{◌≡◌, false, [], ◌<◌, take};
 ghost use Rattle.device.specs.Nodes.{any_node_beyond};
 ghost use Rattle.cells.specs.Cells.{row_width, positions_of, cells_of, Listed};
@@ -7,7 +9,7 @@ ghost use Rattle.cells.specs.Steps.{lower_of, higher_of, carry_of, carry_cell_of
 use device::Terminals;
 
 // Cells, each as row · 2^32 + column, in rising order: the first `count` numbers, and ones behind them.
-#[derive(Drop)]
+#[derive(Clone, Copy)]
 pub struct CellList {
     pub numbers: [u64; 44],
     pub count: usize,

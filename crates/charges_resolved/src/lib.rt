@@ -1,6 +1,8 @@
 // A load by cells that were looked up before, whole: the static part (`load_resolved`) and what a transient load adds to it, the charge
 // branches (`load_residual_tran` and `load_jacobian_tran` of mosfet1.rs over `jac_cells`). The rows are tested before the first write
 // (`resolved_rows`). The definitions of the steps and their laws are those of `load_resolved`.
+#![tactic(auto)]
+
 ghost use Rattle.std.specs.Prelude.{◌<◌, ◌≡◌, true, length, get_or};
 ghost use Rattle.stamps.specs.Stamps.{charge_branches_of};
 ghost use Rattle.places.specs.Places.{nodes_of};

@@ -3,6 +3,8 @@
 // (`resolved_rows`). The charge branches and the whole load are `charges_resolved`; what both are defined by, and the laws, stand here.
 // `adding` and `stamps` have the same sums for the load that searches: there each large function must keep its one caller, or the
 // compiler makes calls of them, and a load takes a third longer.
+#![tactic(auto)]
+
 ghost use Rattle.std.specs.Prelude.{◌+◌, ◌<◌, ◌≡◌, true, ◌||◌, [], ◌∷◌, length, get_or, eqb};
 ghost use Rattle.std.specs.Float.Ieee.{neg};
 ghost use Rattle.exact.specs.Float64.{◌⊕◌, +0};

@@ -16,7 +16,6 @@ use Rattle.device.specs.Stages.{stage_number, unbound, unevaluated}
 use Rattle.device.specs.declared.NodeId.{NodeId}
 use Rattle.device.specs.declared.NodeId.TheVariants.{Ground, At}
 use Rattle.device.specs.declared.Stage.{Stage}
-use Rattle.device.specs.declared.Stage.TheVariants as Stage
 use Rattle.device.specs.declared.Terminals.{Terminals}
 use Rattle.device.specs.declared.Mosfet1.{Mosfet1}
 use Rattle.stamps.specs.Stamps.{jac_values_of, residual_of}

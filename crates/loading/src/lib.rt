@@ -1,5 +1,7 @@
 // Loading a device into the right-hand side and the matrix (`load_residual`, `load_jacobian` and their transient forms of
 // mosfet1.rs, over the pattern of mna.rs), with the refusals of rows 8, 10, 11, 12 and 13.
+#![tactic(auto)]
+
 ghost use Rattle.std.specs.Prelude.{◌≡◌, not, length};
 ghost use Rattle.pattern.specs.Pattern.{well_formed};
 ghost use Rattle.device.specs.Nodes.{node_beyond, any_node_beyond};
@@ -10,14 +12,14 @@ use device::{Discretisation, Mosfet1, NodeId, Stage, Terminals};
 use stamps::{ChargeBranch, ChargeBranches};
 
 // Direct current, or transient with the factor alpha of a load without a step.
-#[derive(Drop)]
+#[derive(Clone, Copy)]
 pub enum LoadKind {
     DirectCurrent,
     Transient(f64),
 }
 
 // Both slices were loaded, or the number of the row that refuses it.
-#[derive(Drop)]
+#[derive(Clone, Copy)]
 pub enum LoadAnswer {
     Done,
     Refused(u8),
@@ -174,7 +176,7 @@ pub fn load(
     offsets: &[usize],
     lengths: &[usize],
 ) -> LoadAnswer
-    ensures { Loaded device kind (record { columns = columns.entry.now; offsets = offsets.now; lengths = lengths.now }) rhs.old values.old (outcome_of_load result) rhs.new values.new }
+    ensures { Loaded device kind (record { columns = columns.now; offsets = offsets.now; lengths = lengths.now }) rhs.old values.old (outcome_of_load result) rhs.new values.new }
 {
     let stage = device.stage;
     let t = device.terminals;

@@ -1,5 +1,7 @@
 // What a builder asks of a device before it is evaluated: how many nodes a binding takes, and the matrix that every load of the bound device
 // fits into.
+#![tactic(auto)]
+
 ghost use Rattle.std.specs.Prelude.{◌≡◌};
 ghost use Rattle.matrix_layout.specs.MatrixLayout.{
   extra_nodes_of,
@@ -12,14 +14,14 @@ use cell_pattern::Needed;
 use device::{Mosfet1, Stage};
 
 // The number of extra nodes, or the number of the refusal.
-#[derive(Drop)]
+#[derive(Clone, Copy)]
 pub enum ExtraNodesAnswer {
     Nodes(usize),
     Refused(u8),
 }
 
 // The needed lengths, or the number of the refusal.
-#[derive(Drop)]
+#[derive(Clone, Copy)]
 pub enum LayoutAnswer {
     Lengths(Needed),
     Refused(u8),

@@ -1,5 +1,4 @@
 -- Laws of the search: rising columns are ordered by their places, and the first place of a column is the only one.
-use denote.Slice.{shr_slice_at}
 use Rattle.std.proofs.Common.{◌≡◌, ℕ, zero, suc, ◌+◌, ◌-◌, ◌<◌, ◌≤◌, Bool, true, false, cond, eqb, ltb, ◌⊎◌, List, [], ◌∷◌, length, get_or, take, sym, refl, ap, ◌∙◌, subst, inl, inr, ⊎_elim, suc-le-suc, zero-le, lt_trans, le_of_suc-le-suc, not-suc-le-zero, add-zero, add-suc, suc-add, arith, get_or-drop, get_or-take, ltb-false, ltb-true, eq-eqb, ne_eqb}
 use lib.ListN.{get_or-eq_default}
 use lib.Seq.{slice, length-slice}
@@ -57,11 +56,11 @@ place_absent at (x ∷ xs) column f =
 
 -- the same of the columns from index f up to t, by their places among all columns
 module _ (columns : List ℕ) (f t : ℕ) (inside : t ≤ length columns) where
-  shr_slice_at : (k : ℕ) → f + k < t → get_or (slice f t columns) k 0 ≡ get_or columns (f + k) 0
-  shr_slice_at k h = get_or-drop f (take t columns) k 0 ∙ get_or-take t columns (f + k) 0 h
+  slice_at : (k : ℕ) → f + k < t → get_or (slice f t columns) k 0 ≡ get_or columns (f + k) 0
+  slice_at k h = get_or-drop f (take t columns) k 0 ∙ get_or-take t columns (f + k) 0 h
 
   here : (k : ℕ) → f ≤ k → k < t → get_or (slice f t columns) (k - f) 0 ≡ get_or columns k 0
-  here k l h = shr_slice_at (k - f) (omega arith) ∙ ap (λ (n : ℕ). get_or columns n 0) (omega arith)
+  here k l h = slice_at (k - f) (omega arith) ∙ ap (λ (n : ℕ). get_or columns n 0) (omega arith)
 
   inner : (j : ℕ) → j < length (slice f t columns) → f + j < t
   inner j b = omega (arith, length-slice f t columns inside)
@@ -80,7 +79,7 @@ module _ (columns : List ℕ) (f t : ℕ) (inside : t ≤ length columns) where
   pub places_absent : (column : ℕ) → ((k : ℕ) → f ≤ k → k < t → get_or columns k 0 ≡ column → ⊥) → place_in f (slice f t columns) column ≡ Absent
   places_absent column n =
       place_absent f (slice f t columns) column
-      (λ j b e. n (f + j) (omega arith) (inner j b) (sym (shr_slice_at j (inner j b)) ∙ e))
+      (λ j b e. n (f + j) (omega arith) (inner j b) (sym (slice_at j (inner j b)) ∙ e))
 
 -- a column that stands neither before lo nor from hi on
 pub record Bracket (columns : List ℕ) (f t column lo hi : ℕ) : Type 0 where

@@ -1,17 +1,19 @@
 // The matrix pattern (the Rust's `Pattern` of mna.rs): row 12's test, and the place of a cell.
+#![tactic(auto)]
+
 ghost use Rattle.std.specs.Prelude.{◌≡◌, ◌+◌, ◌≤◌, true, length};
 ghost use Rattle.std.proofs.Math.Seq.{slice};
 ghost use Rattle.pattern.specs.Pattern.{rising, well_formed, place_in, cell_of, span_of, guess_of};
 
 // Where a column stands, if it does.
-#[derive(Drop)]
+#[derive(Clone, Copy)]
 pub enum Found {
     At(usize),
     Absent,
 }
 
 // A row's part of the columns, and the first column in it, 0 where the row is empty.
-#[derive(Drop)]
+#[derive(Clone, Copy)]
 pub struct RowSpan {
     pub from: usize,
     pub len: usize,

@@ -1,6 +1,8 @@
 // Looking up where a device's contributions go in the matrix (`Pattern::cell` of mna.rs for `jac_pairs` and the charge
 // branches of mosfet1.rs). Nodes and places are held as numbers; two numbers behind the end of every slice stand for ground's
 // and for a cell that is not in the pattern.
+#![tactic(auto)]
+
 ghost use Rattle.std.specs.Prelude.{◌≡◌, true, cond, length};
 ghost use Rattle.pattern.specs.Pattern.{well_formed};
 ghost use Rattle.stamps.specs.Stamps.{jac_pairs_of};
@@ -11,7 +13,7 @@ use pattern::{Found, RowSpan};
 use stamps::ChargeBranches;
 
 // The six nodes, each by its index; ground is the number of a skipped place.
-#[derive(Drop)]
+#[derive(Clone, Copy)]
 pub struct Nodes {
     pub drain_ext: usize,
     pub source_ext: usize,
@@ -22,7 +24,7 @@ pub struct Nodes {
 }
 
 // The places of the five cells that only the gate's branches have.
-#[derive(Drop)]
+#[derive(Clone, Copy)]
 pub struct GatePlaces {
     pub gg: usize,
     pub gs: usize,
@@ -32,7 +34,7 @@ pub struct GatePlaces {
 }
 
 // Whether every needed cell is in the pattern, and the places: of the 24 Jacobian values' cells, and of the gate's.
-#[derive(Drop)]
+#[derive(Clone, Copy)]
 pub struct Cells {
     pub there: bool,
     pub places: [usize; 24],
@@ -126,7 +128,7 @@ fn place_unless(
 // no series resistance its outer node is the inner one.
 fn jacobian_places(columns: &[u32], offsets: &[usize], lengths: &[usize], n: Nodes) -> [usize; 24]
     requires { well_formed columns.now offsets.now lengths.now (length columns.now) ≡ true }
-    ensures { result ≡ numbers_of (record { columns = columns.entry.now; offsets = offsets.now; lengths = lengths.now }) (jac_pairs_of (terminals_at n)) }
+    ensures { result ≡ numbers_of (record { columns = columns.now; offsets = offsets.now; lengths = lengths.now }) (jac_pairs_of (terminals_at n)) }
 {
     let d = n.drain;
     let g = n.gate;
@@ -171,7 +173,7 @@ fn gate_places(
     any: bool,
 ) -> GatePlaces
     requires { well_formed columns.now offsets.now lengths.now (length columns.now) ≡ true }
-    ensures { result ≡ gate_places_of (record { columns = columns.entry.now; offsets = offsets.now; lengths = lengths.now }) (terminals_at n) any }
+    ensures { result ≡ gate_places_of (record { columns = columns.now; offsets = offsets.now; lengths = lengths.now }) (terminals_at n) any }
 {
     if !any {
         return GatePlaces {
@@ -268,7 +270,7 @@ pub fn look_up(
     b: ChargeBranches,
 ) -> Cells
     requires { well_formed columns.now offsets.now lengths.now (length columns.now) ≡ true }
-    ensures { Looked (record { columns = columns.entry.now; offsets = offsets.now; lengths = lengths.now }) (terminals_at n) b result.there result.places result.gate }
+    ensures { Looked (record { columns = columns.now; offsets = offsets.now; lengths = lengths.now }) (terminals_at n) b result.there result.places result.gate }
 {
     let places = jacobian_places(columns, offsets, lengths, n);
     let any = any_gate(b);

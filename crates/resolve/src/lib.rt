@@ -1,4 +1,6 @@
 // The cells of a bound device, looked up once (`resolve_cells` of mosfet1.rs), for loads that search no more.
+#![tactic(auto)]
+
 ghost use Rattle.std.specs.Prelude.{◌≡◌, true, [], ◌∷◌, ◌++◌, length};
 ghost use Rattle.pattern.specs.Pattern.{well_formed};
 ghost use Rattle.device.specs.Refusals.{number, values_or};
@@ -12,7 +14,7 @@ use pattern::Found;
 use places::Nodes;
 
 // The cells, or the number of the row that refuses to look them up; they are zeros then.
-#[derive(Drop)]
+#[derive(Clone, Copy)]
 pub struct Resolution {
     pub row: u8,
     pub cells: [usize; 37],
@@ -38,7 +40,7 @@ fn number(
     column: NodeId,
 ) -> usize
     requires { well_formed columns.now offsets.now lengths.now (length columns.now) ≡ true }
-    ensures { result ≡ number_of (record { columns = columns.entry.now; offsets = offsets.now; lengths = lengths.now }) row column }
+    ensures { result ≡ number_of (record { columns = columns.now; offsets = offsets.now; lengths = lengths.now }) row column }
 {
     match row {
         NodeId::Ground => SKIPPED,
@@ -55,7 +57,7 @@ fn number(
 // The places of the 24 pairs' cells (`jac_pairs`), as numbers.
 fn pair_numbers(columns: &[u32], offsets: &[usize], lengths: &[usize], t: Terminals) -> [usize; 24]
     requires { well_formed columns.now offsets.now lengths.now (length columns.now) ≡ true }
-    ensures { result ≡ numbers_of (record { columns = columns.entry.now; offsets = offsets.now; lengths = lengths.now }) (jac_pairs_of t) }
+    ensures { result ≡ numbers_of (record { columns = columns.now; offsets = offsets.now; lengths = lengths.now }) (jac_pairs_of t) }
 {
     let d = t.drain;
     let g = t.gate;
@@ -89,7 +91,7 @@ fn pair_numbers(columns: &[u32], offsets: &[usize], lengths: &[usize], t: Termin
 // The places of the five cells that only the gate's charge branches have.
 fn gate_numbers(columns: &[u32], offsets: &[usize], lengths: &[usize], t: Terminals) -> [usize; 5]
     requires { well_formed columns.now offsets.now lengths.now (length columns.now) ≡ true }
-    ensures { result ≡ numbers_of (record { columns = columns.entry.now; offsets = offsets.now; lengths = lengths.now }) (gate_pairs_of t) }
+    ensures { result ≡ numbers_of (record { columns = columns.now; offsets = offsets.now; lengths = lengths.now }) (gate_pairs_of t) }
 {
     let d = t.drain;
     let g = t.gate;
@@ -161,7 +163,7 @@ fn refused(row: u8) -> Resolution
 
 // Rows 8, 10 and 12 in this order, 0 where none applies.
 fn early_row(d: Mosfet1, columns: &[u32], offsets: &[usize], lengths: &[usize]) -> u8
-    ensures { result ≡ early_row_of d (record { columns = columns.entry.now; offsets = offsets.now; lengths = lengths.now }) }
+    ensures { result ≡ early_row_of d (record { columns = columns.now; offsets = offsets.now; lengths = lengths.now }) }
 {
     let stage = d.stage;
     let rows = offsets.len();
@@ -179,8 +181,8 @@ fn early_row(d: Mosfet1, columns: &[u32], offsets: &[usize], lengths: &[usize]) 
 
 // `resolve_cells`: looks every cell of the device's binding up. A cell of a charge branch may be absent.
 pub fn resolve(d: Mosfet1, columns: &[u32], offsets: &[usize], lengths: &[usize]) -> Resolution
-    ensures { (result.row ≡ number (resolve_of d (record { columns = columns.entry.now; offsets = offsets.now; lengths = lengths.now })))
-        × (result.cells ≡ values_or no_cells (resolve_of d (record { columns = columns.entry.now; offsets = offsets.now; lengths = lengths.now }))) }
+    ensures { (result.row ≡ number (resolve_of d (record { columns = columns.now; offsets = offsets.now; lengths = lengths.now })))
+        × (result.cells ≡ values_or no_cells (resolve_of d (record { columns = columns.now; offsets = offsets.now; lengths = lengths.now }))) }
 {
     let row = early_row(d, columns, offsets, lengths);
     if row != 0 {

@@ -1,5 +1,7 @@
 // The tests of a load by cells that were looked up before: what refuses it, all of it asked before the first write. The cells are 37
 // numbers of the caller's, in the order of `resolve`; `load_resolved` and `charges_resolved` have the additions.
+#![tactic(auto)]
+
 ghost use Rattle.std.specs.Prelude.{◌+◌, ◌<◌, ◌≡◌, true, false, not, ◌&&◌, get_or, eqb};
 ghost use Rattle.device.specs.Stages.{unevaluated};
 ghost use Rattle.stamps.specs.Stamps.{jac_pairs_of};

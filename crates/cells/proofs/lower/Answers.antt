@@ -1,0 +1,11 @@
+use borrow.Author.Tests.{lt-ltb, le-ltb}
+use Rattle.cells.specs.Steps.{lower_of}
+use Rattle.cells.proofs.lower.Goals as goal
+
+pub returns-then-x-y : goal.returns-then-x-y
+unfolding lower_of
+returns-then-x-y c = simp (lt-ltb _ _ c.if-x-y.true)
+
+pub returns : goal.returns
+unfolding lower_of
+returns c = simp (le-ltb _ _ c.if-x-y.false)
