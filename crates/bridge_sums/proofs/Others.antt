@@ -19,7 +19,7 @@ use Rattle.device.specs.declared.Mosfet1.{Mosfet1}
 use Rattle.assembly.specs.Assembly.{Pattern, Contribution, at, found_place, place_of}
 use Rattle.loading.specs.declared.LoadKind.{LoadKind}
 use Rattle.column_sums.specs.ColumnSums.{place_gets, entry_gets, OthersUnchanged, OtherCellsUnchanged}
-use Rattle.column_sums.proofs.Entries.{other_places, other_entries}
+use Rattle.column_sums.proofs.Entries.{other_places, other_entries_lem}
 use Rattle.column_sums.proofs.Cells.{cells_unchanged}
 use Rattle.bridge.specs.Bridge.{Slices, zeroed, bridge_of, bridge_slices, part_of, with_part, block_of, block_slices}
 use Rattle.bridge_sums.specs.BridgeSums.{zero_slices, own_slices, all_cells, all_sources, AllAdded, OthersZero, OtherCellsZero, OtherRowsUnchanged, BridgeOthers, BlockOthers, OthersStayZero}
@@ -32,7 +32,7 @@ module _ (ds : List Mosfet1) (k : LoadKind) (P : Pattern) (first last : Slices) 
   same_places = rw added.matrix (other_places P (all_cells k ds) first.matrix)
 
   same_entries : OthersUnchanged (entry_gets (all_sources k ds)) first.side last.side
-  same_entries = rw added.side (other_entries (all_sources k ds) first.side)
+  same_entries = rw added.side (other_entries_lem (all_sources k ds) first.side)
 
   same_cells : pairs_fit P.columns 0 P.offsets P.lengths ≡ true → OtherCellsUnchanged P (all_cells k ds) first.matrix last.matrix
   same_cells fit = cells_unchanged P fit (all_cells k ds) first.matrix last.matrix same_places

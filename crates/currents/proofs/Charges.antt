@@ -136,9 +136,11 @@ if_held (value Q) = Q
 -- ---- the branch returns its current
 told : (b : Bool) → T b → b ≡ true
 told true t = refl
+told false t = elim t [ ]
 
 told_not : (b : Bool) → T (not b) → b ≡ false
 told_not false t = refl
+told_not true t = elim t [ ]
 
 module _ (d : Mosfet1) (alpha : Float) (S : StateSizes d) (row : alpha_outside d.disc (Transient alpha) ≡ false) (b : Branch) {v : Voltages} (W : arguments.VoltagesSizes v) (term : term_of b d.charges ≡ capacitance_of b d.charges ⊗ voltage_of b v) where
   method : MethodSizes d.disc alpha

@@ -1,1 +1,2 @@
 // Definitions and laws alone: demand 3, one claim about every list of calls.
+#![tactic(auto)]

@@ -1,1 +1,2 @@
 // Definitions and laws alone: the bounds of every device that a list of calls can leave.
+#![tactic(auto)]
