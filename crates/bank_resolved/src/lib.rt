@@ -1,6 +1,8 @@
 // What the load of a whole bridge by cells does for all of a bank's devices: the numbers, asked of all of them before the first write, and the
 // loads in device order. Each step makes a record of a device's words by a function with no other caller: the compiler then reads of a record
 // what the step needs, and copies nothing.
+#![tactic(auto)]
+
 ghost use Rattle.std.specs.Prelude.{◌≡◌, true, false, cond, leb, ltb, length};
 ghost use Rattle.resolved_rows.specs.ByNumbers.{nodes_at};
 ghost use Rattle.record_loading.specs.Load.{kind_from};

@@ -17,7 +17,6 @@ use Rattle.bridge.specs.Bridge.{Slices, devices_rows, load_in_order, zeroed, bri
 use Rattle.bridge.proofs.Runs.{RunInside, run_inside}
 use Rattle.bridge_calls.specs.Calls.{good_loads, bridge_call, bridge_side, bridge_matrix, block_call, block_side, block_matrix}
 use Rattle.bridge_calls.specs.Steps.{bridge_number, block_number}
-use Rattle.bridge_calls.proofs.Numbers.{length_devices}
 use Rattle.bridge_calls.proofs.Answers.{refused_number, refused_slice, done_number, done_slice, accepted_good}
 
 pub length_zeroed : (xs : List Float) → length (zeroed xs) ≡ length xs
@@ -99,9 +98,9 @@ module _ (bank : List (List Float)) (block : ℕ) (starts counts : List ℕ) (tr
   unfolding block_number
   by_block_rows = is
 
-  pub block_refused : (n ≡ 0 → ⊥) → (n ≡ block_call bank block starts counts transient alpha P rhs values) × ((rhs ≡ block_side bank block starts counts transient alpha P rhs values) × (values ≡ block_matrix bank block starts counts transient alpha P rhs values))
+  pub block_refused_lem : (n ≡ 0 → ⊥) → (n ≡ block_call bank block starts counts transient alpha P rhs values) × ((rhs ≡ block_side bank block starts counts transient alpha P rhs values) × (values ≡ block_matrix bank block starts counts transient alpha P rhs values))
   unfolding block_call block_side block_matrix block_of
-  block_refused h = (
+  block_refused_lem h = (
     by_block_rows ∙ refused_number block_rows_here tt block_good (λ e. h (by_block_rows ∙ e)),
     (
       refused_slice block_rows_here tt block_good (λ e. h (by_block_rows ∙ e)) _ rhs,

@@ -17,7 +17,7 @@ use Rattle.bank_resolved.specs.Steps.{celled_row}
 use Rattle.bridge_calls.specs.Calls.{good_loads, resolved_bridge_call, resolved_bridge_side, resolved_bridge_matrix}
 use Rattle.bridge_calls.specs.Steps.{resolved_bridge_number}
 use Rattle.bridge_calls.proofs.Numbers.{known}
-use Rattle.bridge_calls.proofs.Answers.{refused_number, refused_slice, done_number, done_slice, accepted_good}
+use Rattle.bridge_calls.proofs.Answers.{refused_number, refused_slice, done_number, done_slice}
 use Rattle.bridge_calls.proofs.Loads.{behind_14}
 
 -- ---- its number, behind the tags and the kind

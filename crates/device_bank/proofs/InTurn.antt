@@ -1,7 +1,7 @@
 -- The loads of a bank's devices one after the other.
-use mathlib.Core.Path.{◌≡◌, refl, sym, ap, ◌∙◌, subst}
+use mathlib.Core.Path.{◌≡◌, sym, ap, ◌∙◌, subst}
 use mathlib.Core.List.{List, [], ◌∷◌}
-use Prim.Native.Nat.{ℕ, suc, ◌+◌, ◌≤◌, ◌<◌}
+use Prim.Native.Nat.{ℕ, ◌+◌, ◌≤◌, ◌<◌}
 use native.Mathlib.Numerals.{add-one}
 use lib.ListN.{length, get_or, drop, drop_of_length-le}
 use lib.Seq.{drop-cons}
@@ -13,7 +13,7 @@ use Rattle.loading.specs.Loading.{load_of, Loaded}
 use Rattle.loading.specs.declared.LoadKind.{LoadKind}
 use Rattle.from_record.specs.Devices.{device_from}
 use Rattle.record_words.specs.Words.{record_of}
-use Rattle.bridge.specs.Bridge.{Slices, load_one, load_in_order}
+use Rattle.bridge.specs.Bridge.{Slices, load_in_order}
 use Rattle.bridge.proofs.InOrder.{Passed, number_passed, first_accepted, rest_passed, loaded_one}
 use Rattle.device_bank.specs.Bank.{devices_of, bank_row}
 

@@ -1,5 +1,7 @@
 // A caller's bank of devices, read where it lies: 113 words a record. What the loads of a block and of a bridge do for all of its devices:
 // the tags, the rows, asked of all of them before the first write, and the loads in device order.
+#![tactic(auto)]
+
 ghost use Rattle.std.specs.Prelude.{◌≡◌, false, not, length};
 ghost use Rattle.from_record.specs.Devices.{device_from};
 ghost use Rattle.record_words.specs.Words.{record_of};
@@ -52,7 +54,7 @@ pub fn lowest_row(
     offsets: &[usize],
     lengths: &[usize],
 ) -> u8
-    ensures { result ≡ bank_row bank.now kind (record { columns = columns.entry.now; offsets = offsets.now; lengths = lengths.now }) rows values }
+    ensures { result ≡ bank_row bank.now kind (record { columns = columns.now; offsets = offsets.now; lengths = lengths.now }) rows values }
 {
     let well = pattern::well_formed(columns, offsets, lengths, values);
     let mut row = pattern_row(well);
@@ -78,7 +80,7 @@ pub fn add_devices(
 )
     requires { bank_row bank.now kind (record { columns = columns.now; offsets = offsets.now; lengths = lengths.now }) (length rhs.old) (length values.old) ≡ 0 }
     ensures { record { side = rhs.new; matrix = values.new }
-        ≡ load_in_order kind (record { columns = columns.entry.now; offsets = offsets.now; lengths = lengths.now }) (devices_of bank.now) (record { side = rhs.old; matrix = values.old }) }
+        ≡ load_in_order kind (record { columns = columns.now; offsets = offsets.now; lengths = lengths.now }) (devices_of bank.now) (record { side = rhs.old; matrix = values.old }) }
 {
     let mut i: usize = 0;
     while i < bank.len() {

@@ -1,6 +1,3 @@
-pub mod Pieces
-pub mod Again
-pub mod LoadResolved
 pub mod EvalInPlace
 pub mod CommitInPlace
-pub mod LoadInPlace
+pub mod LoadResolved

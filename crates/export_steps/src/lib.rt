@@ -1,1 +1,2 @@
-// The steps of the exports that stand over a record where it lies, walked by hand: laws only, no function.
+// The exports that stand over a record where it lies: from what their steps gave to what the call answers and leaves. Laws only, no function.
+#![tactic(auto)]

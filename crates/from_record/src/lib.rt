@@ -1,4 +1,6 @@
 // The device that a record stands for, and the test that it stands for one.
+#![tactic(auto)]
+
 ghost use Rattle.std.specs.Prelude.{◌≡◌, leb};
 ghost use Rattle.from_record.specs.Devices.{node_from, given_from, method_from, stage_from, card_from, terminals_from, history_from, histories_from, device_from};
 ghost use Rattle.from_record.specs.Inside.{indices_or};

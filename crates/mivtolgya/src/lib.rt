@@ -3,6 +3,8 @@
 // Evaluation, both loads and commit, the calls of the loop, stand over the record where it lies and write only what changes. Each
 // large function below them has one caller, so the compiler makes one function of a call, which reads of the record what it needs and
 // copies nothing. The other calls take the record by value, and one that changes it answers the record that is to take its place.
+#![tactic(auto)]
+
 ghost use Rattle.std.specs.Prelude.{◌≡◌, length};
 ghost use Rattle.record_card.specs.Keys.{card_call, card_call_list, geometry_call, geometry_call_list};
 ghost use Rattle.record_setup.specs.Setup.{scaling_call, binding_call, extra_nodes_call};
@@ -185,9 +187,9 @@ pub extern "C" fn mivtolgya_load_in_place(
     offsets: &[usize],
     lengths: &[usize],
 ) -> u64
-    ensures { (result ≡ load_call device.now transient alpha (record { columns = columns.entry.now; offsets = offsets.now; lengths = lengths.now }) rhs.old values.old)
-        × ((rhs.new ≡ loaded_side device.now transient alpha (record { columns = columns.entry.now; offsets = offsets.now; lengths = lengths.now }) rhs.old values.old)
-        × (values.new ≡ loaded_matrix device.now transient alpha (record { columns = columns.entry.now; offsets = offsets.now; lengths = lengths.now }) rhs.old values.old)) }
+    ensures { (result ≡ load_call device.now transient alpha (record { columns = columns.now; offsets = offsets.now; lengths = lengths.now }) rhs.old values.old)
+        × ((rhs.new ≡ loaded_side device.now transient alpha (record { columns = columns.now; offsets = offsets.now; lengths = lengths.now }) rhs.old values.old)
+        × (values.new ≡ loaded_matrix device.now transient alpha (record { columns = columns.now; offsets = offsets.now; lengths = lengths.now }) rhs.old values.old)) }
 {
     let r = *device;
     record_loading::load(r, transient, alpha, rhs, values, columns, offsets, lengths)
@@ -217,8 +219,8 @@ pub extern "C" fn mivtolgya_resolve(
     offsets: &[usize],
     lengths: &[usize],
 ) -> ResolveOutcome
-    ensures { (result.refusal ≡ number (resolve_call device (record { columns = columns.entry.now; offsets = offsets.now; lengths = lengths.now })))
-        × (result.cells ≡ values_or no_cells (resolve_call device (record { columns = columns.entry.now; offsets = offsets.now; lengths = lengths.now }))) }
+    ensures { (result.refusal ≡ number (resolve_call device (record { columns = columns.now; offsets = offsets.now; lengths = lengths.now })))
+        × (result.cells ≡ values_or no_cells (resolve_call device (record { columns = columns.now; offsets = offsets.now; lengths = lengths.now }))) }
 {
     record_resolved::resolve(device, columns, offsets, lengths)
 }

@@ -1,6 +1,9 @@
-// The loads of a block and of a whole bridge for C and Rust on x86-64 (include/mivtolgya.h), an archive of its own beside mivtolgya's: with a
-// second caller in one archive the compiler would no longer make one function of the load of a single device, which then takes half as long
-// again. The devices are records of the caller's in a row, read where they lie. Everything is tested before the first write.
+// The loads of a block and of a whole bridge for C and Rust on x86-64 (include/mivtolgya.h), which `mivtolgya_bridge_c` exports in an archive of
+// its own beside mivtolgya's: with a second caller in one archive the compiler would no longer make one function of the load of a single
+// device, which then takes half as long again. The devices are records of the caller's in a row, read where they lie. Everything is tested
+// before the first write.
+#![tactic(auto)]
+
 ghost use Rattle.std.specs.Prelude.{◌≡◌};
 ghost use Rattle.bridge_calls.specs.Calls.{bridge_call, bridge_side, bridge_matrix, block_call, block_side, block_matrix, resolved_bridge_call, resolved_bridge_side, resolved_bridge_matrix};
 ghost use Rattle.bridge_calls.specs.Steps.{bridge_number, block_number, resolved_bridge_number};
@@ -18,7 +21,7 @@ fn bridge_number(
     offsets: &[usize],
     lengths: &[usize],
 ) -> u64
-    ensures { result ≡ bridge_number bank.now starts.now counts.now transient alpha (record { columns = columns.entry.now; offsets = offsets.now; lengths = lengths.now }) rows values }
+    ensures { result ≡ bridge_number bank.now starts.now counts.now transient alpha (record { columns = columns.now; offsets = offsets.now; lengths = lengths.now }) rows values }
 {
     if !device_bank::good_bank(bank) {
         return 100;
@@ -48,7 +51,7 @@ fn block_number(
     offsets: &[usize],
     lengths: &[usize],
 ) -> u64
-    ensures { result ≡ block_number bank.now block starts.now counts.now transient alpha (record { columns = columns.entry.now; offsets = offsets.now; lengths = lengths.now }) rows values }
+    ensures { result ≡ block_number bank.now block starts.now counts.now transient alpha (record { columns = columns.now; offsets = offsets.now; lengths = lengths.now }) rows values }
 {
     if !device_bank::good_bank(bank) {
         return 100;
@@ -66,8 +69,7 @@ fn block_number(
 }
 
 // Sets both slices to zero and loads the devices of the whole bridge in device order.
-#[unsafe(no_mangle)]
-pub extern "C" fn mivtolgya_load_bridge(
+pub fn mivtolgya_load_bridge(
     bank: &[[f64; 113]],
     starts: &[usize],
     counts: &[usize],
@@ -79,9 +81,9 @@ pub extern "C" fn mivtolgya_load_bridge(
     offsets: &[usize],
     lengths: &[usize],
 ) -> u64
-    ensures { (result ≡ bridge_call bank.now starts.now counts.now transient alpha (record { columns = columns.entry.now; offsets = offsets.now; lengths = lengths.now }) rhs.old values.old)
-        × ((rhs.new ≡ bridge_side bank.now starts.now counts.now transient alpha (record { columns = columns.entry.now; offsets = offsets.now; lengths = lengths.now }) rhs.old values.old)
-        × (values.new ≡ bridge_matrix bank.now starts.now counts.now transient alpha (record { columns = columns.entry.now; offsets = offsets.now; lengths = lengths.now }) rhs.old values.old)) }
+    ensures { (result ≡ bridge_call bank.now starts.now counts.now transient alpha (record { columns = columns.now; offsets = offsets.now; lengths = lengths.now }) rhs.old values.old)
+        × ((rhs.new ≡ bridge_side bank.now starts.now counts.now transient alpha (record { columns = columns.now; offsets = offsets.now; lengths = lengths.now }) rhs.old values.old)
+        × (values.new ≡ bridge_matrix bank.now starts.now counts.now transient alpha (record { columns = columns.now; offsets = offsets.now; lengths = lengths.now }) rhs.old values.old)) }
 {
     let number = bridge_number(
         bank,
@@ -107,8 +109,7 @@ pub extern "C" fn mivtolgya_load_bridge(
 
 // Loads the devices of one block in device order into the block's own matrix and its own run of rows: that part of the right-hand side is lent
 // on.
-#[unsafe(no_mangle)]
-pub extern "C" fn mivtolgya_load_block(
+pub fn mivtolgya_load_block(
     bank: &[[f64; 113]],
     block: usize,
     starts: &[usize],
@@ -121,9 +122,9 @@ pub extern "C" fn mivtolgya_load_block(
     offsets: &[usize],
     lengths: &[usize],
 ) -> u64
-    ensures { (result ≡ block_call bank.now block starts.now counts.now transient alpha (record { columns = columns.entry.now; offsets = offsets.now; lengths = lengths.now }) rhs.old values.old)
-        × ((rhs.new ≡ block_side bank.now block starts.now counts.now transient alpha (record { columns = columns.entry.now; offsets = offsets.now; lengths = lengths.now }) rhs.old values.old)
-        × (values.new ≡ block_matrix bank.now block starts.now counts.now transient alpha (record { columns = columns.entry.now; offsets = offsets.now; lengths = lengths.now }) rhs.old values.old)) }
+    ensures { (result ≡ block_call bank.now block starts.now counts.now transient alpha (record { columns = columns.now; offsets = offsets.now; lengths = lengths.now }) rhs.old values.old)
+        × ((rhs.new ≡ block_side bank.now block starts.now counts.now transient alpha (record { columns = columns.now; offsets = offsets.now; lengths = lengths.now }) rhs.old values.old)
+        × (values.new ≡ block_matrix bank.now block starts.now counts.now transient alpha (record { columns = columns.now; offsets = offsets.now; lengths = lengths.now }) rhs.old values.old)) }
 {
     let number = block_number(
         bank,
@@ -185,8 +186,7 @@ fn resolved_number(
 }
 
 // The load of the whole bridge by the cells that `mivtolgya_resolve` answered for each of its devices, for the loop: no pattern, no search.
-#[unsafe(no_mangle)]
-pub extern "C" fn mivtolgya_load_bridge_resolved(
+pub fn mivtolgya_load_bridge_resolved(
     bank: &[[f64; 113]],
     starts: &[usize],
     counts: &[usize],

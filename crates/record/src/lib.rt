@@ -1,6 +1,8 @@
 // The device as a record for C: numbers alone, every field of eight bytes, so that there is no padding and records can be
 // copied and compared byte by byte. Choices are numbers, their tags; a record whose tags are all known stands for one device. Parts
 // without a choice are the device's own structs.
+#![tactic(auto)]
+
 ghost use Rattle.std.specs.Prelude.{◌≡◌};
 ghost use Rattle.record.specs.Records.{stage_tag, node_record, given_record, method_record, card_record, terminals_record, history_record, histories_record, device_record};
 
@@ -11,7 +13,7 @@ use device::{
 
 // A node: tag 0 is ground, tag 1 the row that `index` names.
 #[repr(C)]
-#[derive(Drop)]
+#[derive(Clone, Copy)]
 pub struct NodeRecord {
     pub tag: u64,
     pub index: usize,
@@ -19,7 +21,7 @@ pub struct NodeRecord {
 
 // A number that may be absent: tag 0 absent, tag 1 `value`.
 #[repr(C)]
-#[derive(Drop)]
+#[derive(Clone, Copy)]
 pub struct GivenRecord {
     pub tag: u64,
     pub value: f64,
@@ -27,7 +29,7 @@ pub struct GivenRecord {
 
 // An integration method: tag 0 none, 1 Euler with h, 2 trapezoid with h, 3 Gear with h and the earlier h.
 #[repr(C)]
-#[derive(Drop)]
+#[derive(Clone, Copy)]
 pub struct MethodRecord {
     pub tag: u64,
     pub h: f64,
@@ -36,7 +38,7 @@ pub struct MethodRecord {
 
 // What the card says; tnom in kelvin.
 #[repr(C)]
-#[derive(Drop)]
+#[derive(Clone, Copy)]
 pub struct CardRecord {
     pub vto: f64,
     pub kp: f64,
@@ -66,7 +68,7 @@ pub struct CardRecord {
 
 // The six nodes.
 #[repr(C)]
-#[derive(Drop)]
+#[derive(Clone, Copy)]
 pub struct TerminalsRecord {
     pub drain_ext: NodeRecord,
     pub source_ext: NodeRecord,
@@ -78,7 +80,7 @@ pub struct TerminalsRecord {
 
 // A charge branch's past.
 #[repr(C)]
-#[derive(Drop)]
+#[derive(Clone, Copy)]
 pub struct HistoryRecord {
     pub q_prev: f64,
     pub q_prev2: GivenRecord,
@@ -86,7 +88,7 @@ pub struct HistoryRecord {
 }
 
 #[repr(C)]
-#[derive(Drop)]
+#[derive(Clone, Copy)]
 pub struct HistoriesRecord {
     pub gs_hist: HistoryRecord,
     pub gd_hist: HistoryRecord,
@@ -97,7 +99,7 @@ pub struct HistoriesRecord {
 
 // The device. The stage counts from 1: card, geometry, scaling, binding, evaluation; so memory of zeros is no device.
 #[repr(C)]
-#[derive(Drop)]
+#[derive(Clone, Copy)]
 pub struct DeviceRecord {
     pub card: CardRecord,
     pub geometry: Geometry,
@@ -112,7 +114,7 @@ pub struct DeviceRecord {
 
 // The device after a call and the number of the refusal, 0 where the call is accepted. A refused call's device is the one handed in.
 #[repr(C)]
-#[derive(Drop)]
+#[derive(Clone, Copy)]
 pub struct DeviceOutcome {
     pub refusal: u64,
     pub device: DeviceRecord,
@@ -127,6 +129,7 @@ pub fn wide(n: u8) -> u64
 
 // ---- from the device to the record; a field that a tag leaves unused is 0
 
+#[tactic(auto, unfolding(crate::specs::Records::node_record))]
 pub fn node_record(node: NodeId) -> NodeRecord
     ensures { result ≡ node_record node }
 {
@@ -136,6 +139,7 @@ pub fn node_record(node: NodeId) -> NodeRecord
     }
 }
 
+#[tactic(auto, unfolding(crate::specs::Records::given_record))]
 fn given_record(given: Given) -> GivenRecord
     ensures { result ≡ given_record given }
 {
@@ -145,6 +149,7 @@ fn given_record(given: Given) -> GivenRecord
     }
 }
 
+#[tactic(auto, unfolding(crate::specs::Records::method_record))]
 pub fn method_record(method: Discretisation) -> MethodRecord
     ensures { result ≡ method_record method }
 {

@@ -1,4 +1,6 @@
 // Card and geometry of a device that is a record.
+#![tactic(auto)]
+
 ghost use Rattle.std.specs.Prelude.{◌≡◌, length};
 ghost use Rattle.card.specs.Card.{outcome_of_card};
 ghost use Rattle.geometry.specs.Geometry.{outcome_of_geometry};
@@ -11,7 +13,7 @@ use record::DeviceRecord;
 // The device after a card or geometry call, the count of unknown keys, and the number of the refusal. A refused call's device is
 // the record handed in, its count 0.
 #[repr(C)]
-#[derive(Drop)]
+#[derive(Clone, Copy)]
 pub struct KeysOutcome {
     pub refusal: u64,
     pub unknown: usize,

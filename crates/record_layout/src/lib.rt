@@ -1,4 +1,6 @@
 // What a builder asks of a device that is a record, before it is evaluated.
+#![tactic(auto)]
+
 ghost use Rattle.std.specs.Prelude.{◌≡◌};
 ghost use Rattle.matrix_layout.specs.MatrixLayout.{outcome_of_extra_nodes, outcome_of_layout};
 ghost use Rattle.record_layout.specs.Layout.{
@@ -17,7 +19,7 @@ use record_setup::CountOutcome;
 
 // The lengths that the pattern needs, of the columns and of the rows' two slices, and the number of the refusal; a refused call answers zeros.
 #[repr(C)]
-#[derive(Drop)]
+#[derive(Clone, Copy)]
 pub struct LayoutOutcome {
     pub refusal: u64,
     pub columns: usize,

@@ -1,4 +1,6 @@
 // Loading a device that is a record.
+#![tactic(auto)]
+
 ghost use Rattle.std.specs.Prelude.{◌≡◌};
 ghost use Rattle.device.specs.Refusals.{number};
 ghost use Rattle.loading.specs.Loading.{outcome_of_load};
@@ -37,9 +39,9 @@ pub fn load(
     offsets: &[usize],
     lengths: &[usize],
 ) -> u64
-    ensures { (result ≡ load_call r transient alpha (record { columns = columns.entry.now; offsets = offsets.now; lengths = lengths.now }) rhs.old values.old)
-        × ((rhs.new ≡ loaded_side r transient alpha (record { columns = columns.entry.now; offsets = offsets.now; lengths = lengths.now }) rhs.old values.old)
-        × (values.new ≡ loaded_matrix r transient alpha (record { columns = columns.entry.now; offsets = offsets.now; lengths = lengths.now }) rhs.old values.old)) }
+    ensures { (result ≡ load_call r transient alpha (record { columns = columns.now; offsets = offsets.now; lengths = lengths.now }) rhs.old values.old)
+        × ((rhs.new ≡ loaded_side r transient alpha (record { columns = columns.now; offsets = offsets.now; lengths = lengths.now }) rhs.old values.old)
+        × (values.new ≡ loaded_matrix r transient alpha (record { columns = columns.now; offsets = offsets.now; lengths = lengths.now }) rhs.old values.old)) }
 {
     if !from_record::good_tags(r) {
         return 100;

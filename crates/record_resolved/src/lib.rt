@@ -1,4 +1,6 @@
 // Looking up the cells of a device that is a record, and loading it by them.
+#![tactic(auto)]
+
 ghost use Rattle.std.specs.Prelude.{◌≡◌, ◌≤◌, true, length, nat_le};
 ghost use Rattle.places.specs.Places.{index_of, nodes_of};
 ghost use Rattle.from_record.specs.Devices.{node_from, terminals_from};
@@ -14,7 +16,7 @@ use std::num::wrapping_sub_u64;
 
 // The cells, and the number of the refusal; a refused call answers zeros.
 #[repr(C)]
-#[derive(Drop)]
+#[derive(Clone, Copy)]
 pub struct ResolveOutcome {
     pub refusal: u64,
     pub cells: [usize; 37],
@@ -39,8 +41,8 @@ pub fn resolve(
     offsets: &[usize],
     lengths: &[usize],
 ) -> ResolveOutcome
-    ensures { (result.refusal ≡ number (resolve_call r (record { columns = columns.entry.now; offsets = offsets.now; lengths = lengths.now })))
-        × (result.cells ≡ values_or no_cells (resolve_call r (record { columns = columns.entry.now; offsets = offsets.now; lengths = lengths.now }))) }
+    ensures { (result.refusal ≡ number (resolve_call r (record { columns = columns.now; offsets = offsets.now; lengths = lengths.now })))
+        × (result.cells ≡ values_or no_cells (resolve_call r (record { columns = columns.now; offsets = offsets.now; lengths = lengths.now }))) }
 {
     if !from_record::good_tags(r) {
         return unknown_tag();

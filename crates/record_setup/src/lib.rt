@@ -1,4 +1,6 @@
 // Scaling and binding of a device that is a record.
+#![tactic(auto)]
+
 ghost use Rattle.std.specs.Prelude.{◌≡◌};
 ghost use Rattle.setup.specs.Scaling.{outcome_of_setup};
 ghost use Rattle.record_setup.specs.Setup.{setup_outcome, scaling_call, good_nodes, bound_by, binding_call, extra_nodes_call};
@@ -9,7 +11,7 @@ use temperature::Kelvin;
 
 // A count, and the number of the refusal.
 #[repr(C)]
-#[derive(Drop)]
+#[derive(Clone, Copy)]
 pub struct CountOutcome {
     pub refusal: u64,
     pub count: usize,
@@ -17,7 +19,7 @@ pub struct CountOutcome {
 
 // The nodes of a binding.
 #[repr(C)]
-#[derive(Drop)]
+#[derive(Clone, Copy)]
 pub struct NodesRecord {
     pub drain: NodeRecord,
     pub gate: NodeRecord,

@@ -1,4 +1,6 @@
 // Noise and reactances of a device that is a record.
+#![tactic(auto)]
+
 ghost use Rattle.std.specs.Prelude.{◌≡◌};
 ghost use Rattle.model.specs.SmallSignal.{outcome_of_noise, outcome_of_reactances};
 ghost use Rattle.record_small_signal.specs.SmallSignal.{noise_refused, noise_outcome, noise_call, no_reactance, reactance_record, five_record, reactances_refused, reactances_outcome, reactances_call};
@@ -9,7 +11,7 @@ use temperature::Kelvin;
 
 // A noise source: tag 0 none, tag 1 from drain to source with its density; and the number of the refusal.
 #[repr(C)]
-#[derive(Drop)]
+#[derive(Clone, Copy)]
 pub struct NoiseOutcome {
     pub refusal: u64,
     pub tag: u64,
@@ -20,7 +22,7 @@ pub struct NoiseOutcome {
 
 // A capacitor between two nodes: tag 0 absent, tag 1 present.
 #[repr(C)]
-#[derive(Drop)]
+#[derive(Clone, Copy)]
 pub struct ReactanceRecord {
     pub tag: u64,
     pub pos: NodeRecord,
@@ -29,7 +31,7 @@ pub struct ReactanceRecord {
 }
 
 #[repr(C)]
-#[derive(Drop)]
+#[derive(Clone, Copy)]
 pub struct ReactancesOutcome {
     pub refusal: u64,
     pub gs: ReactanceRecord,

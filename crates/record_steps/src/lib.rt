@@ -1,4 +1,6 @@
 // Evaluation and commit of a device that is a record.
+#![tactic(auto)]
+
 ghost use Rattle.std.specs.Prelude.{◌<◌, ◌≡◌, false, length};
 ghost use Rattle.device.specs.Nodes.{any_node_beyond};
 ghost use Rattle.device.specs.Stages.{unbound};
@@ -15,7 +17,7 @@ use temperature::Kelvin;
 
 // What an evaluation is handed besides the voltages. The limiter and the transient flag are 0 or 1.
 #[repr(C)]
-#[derive(Drop)]
+#[derive(Clone, Copy)]
 pub struct ConditionsRecord {
     pub temperature: f64,
     pub gmin: f64,
@@ -26,7 +28,7 @@ pub struct ConditionsRecord {
 
 // What an evaluation answers that changes the record where it lies.
 #[repr(C)]
-#[derive(Drop)]
+#[derive(Clone, Copy)]
 pub struct EvaluationReply {
     pub refusal: u64,
     pub answer: Answer,
@@ -34,7 +36,7 @@ pub struct EvaluationReply {
 
 // What an evaluation reads before it works anything out: the row that refuses it, 0 where none does, and then the voltages of the inner
 // nodes and the thermal voltage. That is a division on which the junctions wait, so it is begun before the rows are asked.
-#[derive(Drop)]
+#[derive(Clone, Copy)]
 pub struct Reading {
     pub row: u64,
     pub voltages: Voltages,
@@ -43,7 +45,7 @@ pub struct Reading {
 
 // The reply of an accepted evaluation, and the parts of the record that it changes with the transient flag and without. The stage of
 // an evaluated device is known, and the charges are worked out apart.
-#[derive(Drop)]
+#[derive(Clone, Copy)]
 pub struct EvaluationChanges {
     pub reply: EvaluationReply,
     pub point: OperatingPoint,
@@ -51,7 +53,7 @@ pub struct EvaluationChanges {
 }
 
 // A refused evaluation changes no part of the record: there is its reply alone. So nobody has to store what did not change.
-#[derive(Drop)]
+#[derive(Clone, Copy)]
 pub enum ChangesOrRefusal {
     Transient(EvaluationChanges),
     DirectCurrent(EvaluationChanges),
@@ -59,14 +61,14 @@ pub enum ChangesOrRefusal {
 }
 
 // The parts of the record that an accepted commit changes.
-#[derive(Drop)]
+#[derive(Clone, Copy)]
 pub struct CommitChanges {
     pub point: OperatingPoint,
     pub histories: HistoriesRecord,
 }
 
 // A refused commit changes no part of the record either: there is its number alone.
-#[derive(Drop)]
+#[derive(Clone, Copy)]
 pub enum CommitAnswer {
     Changes(CommitChanges),
     Refusal(u64),

@@ -8,7 +8,7 @@ use lib.Dec.{T}
 use lib.Ieee.{Float, nan, inf, fin, ne, is_nan, binary64, to_bits, of_bits}
 use lib.Ieee.Bits.{to_bits-of_bits, nan_bits_is}
 use native.Mathlib.Omega.{arith}
-use Rattle.hex.proofs.Patterns.{is_number, no_number, other_field}
+use Rattle.hex_text.proofs.Patterns.{is_number, no_number, other_field}
 use Rattle.record_words.specs.Words.{whole_of, float_of}
 
 pub no_whole : (x : Float) → ne x x ≡ true → 18446744073709551615 ≡ whole_of x

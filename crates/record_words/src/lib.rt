@@ -1,12 +1,14 @@
 // A device's record as 113 words of eight bytes, each given as a float: so a caller's records in a row are lent as a slice of arrays of
 // floats. A word that is a whole number and no float (a tag, a node's index, the stage) is its bits.
+#![tactic(auto)]
+
 ghost use Rattle.std.specs.Prelude.{◌+◌, ◌<◌, ◌≡◌, leb, get_or};
 ghost use Rattle.std.specs.Float.{nan};
 ghost use Rattle.from_record.specs.Tags.{good_terminals, good_histories, good_tags};
 ghost use Rattle.record_words.specs.Words.{whole_of, given_at, node_at, history_at, card_of, geometry_of, scaled_of, terminals_of, point_of, charges_of, histories_of, method_of, record_of, float_of, words_of};
 
 use device::{Charges, Geometry, OperatingPoint, Scaled};
-use hex::float_of;
+use hex_text::float_of;
 use record::{
     CardRecord, DeviceRecord, GivenRecord, HistoriesRecord, HistoryRecord, MethodRecord,
     NodeRecord, TerminalsRecord,

@@ -1,0 +1,29 @@
+use Rattle.from_record.specs.Tags.{good_terminals}
+use Rattle.from_record.proofs.good_terminals.Goals as goal
+-- `from_record::good_terminals` meets its contract.
+-- Assumes nothing.
+use borrow.Author.Tests.{le-leb, lt-leb}
+
+pub returns-then-t-gt1 : goal.returns-then-t-gt1
+unfolding good_terminals
+returns-then-t-gt1 c = rw (lt-leb _ 1 c.if-t-gt1.true)
+
+pub returns-then-t-gt1-2 : goal.returns-then-t-gt1-2
+unfolding good_terminals
+returns-then-t-gt1-2 c = rw (le-leb _ 1 c.if-t-gt1.false, lt-leb _ 1 c.if-t-gt1-2.true)
+
+pub returns-then-t-gt1-3 : goal.returns-then-t-gt1-3
+unfolding good_terminals
+returns-then-t-gt1-3 c = rw (le-leb _ 1 c.if-t-gt1.false, le-leb _ 1 c.if-t-gt1-2.false, lt-leb _ 1 c.if-t-gt1-3.true)
+
+pub returns-then-t-gt1-4 : goal.returns-then-t-gt1-4
+unfolding good_terminals
+returns-then-t-gt1-4 c = rw (le-leb _ 1 c.if-t-gt1.false, le-leb _ 1 c.if-t-gt1-2.false, le-leb _ 1 c.if-t-gt1-3.false, lt-leb _ 1 c.if-t-gt1-4.true)
+
+pub returns-then-t-gt1-5 : goal.returns-then-t-gt1-5
+unfolding good_terminals
+returns-then-t-gt1-5 c = rw (le-leb _ 1 c.if-t-gt1.false, le-leb _ 1 c.if-t-gt1-2.false, le-leb _ 1 c.if-t-gt1-3.false, le-leb _ 1 c.if-t-gt1-4.false, lt-leb _ 1 c.if-t-gt1-5.true)
+
+pub returns : goal.returns
+unfolding good_terminals
+returns c = rw (le-leb _ 1 c.if-t-gt1.false, le-leb _ 1 c.if-t-gt1-2.false, le-leb _ 1 c.if-t-gt1-3.false, le-leb _ 1 c.if-t-gt1-4.false, le-leb _ 1 c.if-t-gt1-5.false)
