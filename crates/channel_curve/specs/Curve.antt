@@ -2,9 +2,9 @@
 use Rattle.std.specs.Prelude.{ℕ, false, cond, List, [], ◌∷◌, eqb, length, get_or, Float}
 use Rattle.std.specs.Float.{binary64}
 use Rattle.std.specs.Float.Ieee.{of_bits}
-use Rattle.hex.specs.Hex.{bits_at}
-use Rattle.hex.specs.declared.read.Bits.{Bits}
-use Rattle.hex.specs.declared.read.Bits.TheVariants.{Is, Not}
+use Rattle.hex_text.specs.Hex.{bits_at}
+use Rattle.hex_text.specs.declared.read.Bits.{Bits}
+use Rattle.hex_text.specs.declared.read.Bits.TheVariants.{Is, Not}
 use Rattle.model.specs.Calls.{eval_of}
 use Rattle.device.specs.Refusals.{Outcome, done, refused}
 use Rattle.mosfet1.specs.declared.steps.Evaluated.{Evaluated}

@@ -1,12 +1,14 @@
 // What `curve` makes of a line: two floats by their bits, vgs and vds, answered with what the channel of the reference device
 // carries there. `curve_text` writes the answer out.
+#![tactic(auto)]
+
 mod reference;
 
 ghost use Rattle.std.specs.Prelude.{◌≡◌};
 ghost use Rattle.channel_curve.specs.Curve.{point_at, point_of};
 
 use curve_text::Point;
-use hex::Bits;
+use hex_text::Bits;
 use model::calls::Evaluation;
 
 // The channel at vgs and vds: drain at node 0, gate at node 1.
@@ -34,13 +36,13 @@ pub fn point_of(line: &[u8]) -> Point
     if line[16] != 32 {
         return Point::Bad;
     }
-    let Bits::Is(g) = hex::bits_at(line, 0) else {
+    let Bits::Is(g) = hex_text::bits_at(line, 0) else {
         return Point::Bad;
     };
-    let Bits::Is(d) = hex::bits_at(line, 17) else {
+    let Bits::Is(d) = hex_text::bits_at(line, 17) else {
         return Point::Bad;
     };
-    let vgs = hex::float_of(g);
-    let vds = hex::float_of(d);
+    let vgs = hex_text::float_of(g);
+    let vds = hex_text::float_of(d);
     point_at(vgs, vds)
 }

@@ -11,7 +11,7 @@ use lib.Ieee.{Float, binary64, is_nan, to_bits}
 use lib.ListN.{length, take, set, length-append, length-take, length-set}
 use lib.Seq.{take-suc-set}
 use borrow.Author.Tests.{eqb-true, eqb-false, ltb-true, lt-ltb}
-use Rattle.hex.specs.Text.{after, end_of, text_at, digits_of, number_text}
+use Rattle.hex_text.specs.Text.{after, end_of, text_at, digits_of, number_text}
 use Rattle.curve_text.specs.Answer.{answer_text, point_text}
 use Rattle.curve_text.specs.declared.Point.{Point}
 use Rattle.curve_text.specs.declared.Point.TheVariants.{Good, Bad}

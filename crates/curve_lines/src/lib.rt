@@ -1,7 +1,9 @@
 // The input of `curve` cut into lines, and what is printed for them: whatever the pieces in which the input comes, together they
 // print what `printed` says.
+#![tactic(auto)]
+
 ghost use Rattle.std.specs.Prelude.{◌≡◌, length, take};
-ghost use Rattle.hex.specs.Text.{end_of, text_at};
+ghost use Rattle.hex_text.specs.Text.{end_of, text_at};
 ghost use Rattle.curve_text.specs.Answer.{answer_text};
 ghost use Rattle.channel_curve.specs.Curve.{point_of};
 ghost use Rattle.curve_lines.specs.Printed.{heading, is_bad};
@@ -11,7 +13,7 @@ use curve_text::Point;
 
 // The line that is being read: its first bytes, how many there are (34 stands for more than a good line has), and whether a
 // bad line has ended the run.
-#[derive(Drop)]
+#[derive(Clone, Copy)]
 pub struct Line {
     pub bytes: [u8; 34],
     pub len: usize,
@@ -19,7 +21,7 @@ pub struct Line {
 }
 
 // The line that a piece of the input leaves, and the end of the text that is printed for it.
-#[derive(Drop)]
+#[derive(Clone, Copy)]
 pub struct Fed {
     pub line: Line,
     pub end: usize,
@@ -30,7 +32,7 @@ pub fn put_heading(out: &mut [u8]) -> usize
     ensures value { result ≡ end_of (length out.old) 0 heading }
     ensures out_after { out.new ≡ text_at out.old 0 heading }
 {
-    hex::put_text(out, 0, b"ids gm gds gmbs jeq\n")
+    hex_text::put_text(out, 0, b"ids gm gds gmbs jeq\n")
 }
 
 // No byte of a line is read.

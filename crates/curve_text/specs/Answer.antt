@@ -1,6 +1,6 @@
 -- The line that `curve` prints for a point.
 use Rattle.std.specs.Prelude.{ℕ, List, [], ◌∷◌, ◌++◌, Float}
-use Rattle.hex.specs.Text.{number_text}
+use Rattle.hex_text.specs.Text.{number_text}
 use Rattle.device.specs.declared.OperatingPoint.{OperatingPoint}
 use Rattle.curve_text.specs.declared.Point.{Point}
 use Rattle.curve_text.specs.declared.Point.TheVariants.{Good, Bad}

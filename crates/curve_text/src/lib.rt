@@ -1,12 +1,14 @@
 // The line that `curve` prints for a point of the channel.
+#![tactic(auto)]
+
 ghost use Rattle.std.specs.Prelude.{◌≡◌, length};
-ghost use Rattle.hex.specs.Text.{end_of, text_at};
+ghost use Rattle.hex_text.specs.Text.{end_of, text_at};
 ghost use Rattle.curve_text.specs.Answer.{column, point_text, answer_text};
 
 use device::OperatingPoint;
 
 // What a line gives: the channel's numbers, or a bad line.
-#[derive(Drop)]
+#[derive(Clone, Copy)]
 pub enum Point {
     Good(OperatingPoint),
     Bad,
@@ -17,8 +19,8 @@ fn put_column(out: &mut [u8], at: usize, x: f64, behind: &[u8]) -> usize
     ensures value { result ≡ end_of (length out.old) at (column x behind.now) }
     ensures out_after { out.new ≡ text_at out.old at (column x behind.now) }
 {
-    let n = hex::put_number(out, at, x);
-    hex::put_text(out, n, behind)
+    let n = hex_text::put_number(out, at, x);
+    hex_text::put_text(out, n, behind)
 }
 
 fn put_point(out: &mut [u8], at: usize, p: OperatingPoint) -> usize
@@ -39,6 +41,6 @@ pub fn put_answer(out: &mut [u8], at: usize, p: Point) -> usize
 {
     match p {
         Point::Good(q) => put_point(out, at, q),
-        Point::Bad => hex::put_text(out, at, b"bad\n"),
+        Point::Bad => hex_text::put_text(out, at, b"bad\n"),
     }
 }

@@ -1,6 +1,6 @@
 -- Lists in a word, and what reading them leaves in a lent slice.
 use Rattle.std.specs.Prelude.{ℕ, zero, suc, ◌+◌, ◌*◌, ◌/◌, ◌%◌, Bool, true, false, cond, List, [], ◌∷◌, eqb, ltb, length, get_or, set}
-use Rattle.hex.specs.Hex.{digit_of}
+use Rattle.hex_text.specs.Hex.{digit_of}
 use Rattle.replay.specs.Word.{same_bytes}
 use Rattle.replay.specs.declared.script_lists.Count.{Count}
 use Rattle.replay.specs.declared.script_lists.Count.TheVariants as Count

@@ -5,9 +5,9 @@ use Rattle.std.specs.Float.Ieee.{of_bits}
 use Rattle.device.specs.declared.Discretisation.{Discretisation}
 use Rattle.device.specs.declared.Discretisation.TheVariants as Discretisation
 use Rattle.device.specs.declared.NodeId.TheVariants as NodeId
-use Rattle.hex.specs.Hex.{bits_at}
-use Rattle.hex.specs.declared.read.Bits.{Bits}
-use Rattle.hex.specs.declared.read.Bits.TheVariants as Bits
+use Rattle.hex_text.specs.Hex.{bits_at}
+use Rattle.hex_text.specs.declared.read.Bits.{Bits}
+use Rattle.hex_text.specs.declared.read.Bits.TheVariants as Bits
 use Rattle.replay.specs.declared.script.number.Number.{Number}
 use Rattle.replay.specs.declared.script.number.Number.TheVariants as Number
 use Rattle.replay.specs.declared.script.number.Whole.{Whole}

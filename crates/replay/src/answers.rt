@@ -1,7 +1,7 @@
 // Answers as text: numbers, nodes, methods and lists, in the form in which a script writes them. Each function writes into a lent
 // buffer from at on and answers the place after; what has no room is left out.
 ghost use Rattle.std.specs.Prelude.{◌≡◌, ◌+◌, ◌<◌, length, take};
-ghost use Rattle.hex.specs.Text.{end_of, text_at};
+ghost use Rattle.hex_text.specs.Text.{end_of, text_at};
 ghost use Rattle.replay.specs.Text.{whole_text, next_whole_text, next_text, item_text, each_text, node_text, given_text, history_text, method_text, between_text, list_text, places_text, item_whole_text, wholes_text};
 
 use device::{ChargeHistory, Discretisation, Given, NodeId};
@@ -25,13 +25,13 @@ pub fn put_whole(out: &mut [u8], at: usize, x: u64) -> usize
     let mut rest = x / 10;
     while first > 0 {
         if rest == 0 {
-            return hex::put_text(out, at, &digits[first..]);
+            return hex_text::put_text(out, at, &digits[first..]);
         }
         first -= 1;
         digits[first] = digit_byte(rest % 10);
         rest = rest / 10;
     }
-    hex::put_text(out, at, &digits[first..])
+    hex_text::put_text(out, at, &digits[first..])
 }
 
 // A number after a space.
@@ -39,7 +39,7 @@ pub fn put_next_whole(out: &mut [u8], at: usize, x: u64) -> usize
     ensures value { result ≡ end_of (length out.old) at (next_whole_text x) }
     ensures out_after { out.new ≡ text_at out.old at (next_whole_text x) }
 {
-    let n = hex::put_text(out, at, b" ");
+    let n = hex_text::put_text(out, at, b" ");
     put_whole(out, n, x)
 }
 
@@ -48,8 +48,8 @@ pub fn put_next(out: &mut [u8], at: usize, x: f64) -> usize
     ensures value { result ≡ end_of (length out.old) at (next_text x) }
     ensures out_after { out.new ≡ text_at out.old at (next_text x) }
 {
-    let n = hex::put_text(out, at, b" ");
-    hex::put_number(out, n, x)
+    let n = hex_text::put_text(out, at, b" ");
+    hex_text::put_number(out, n, x)
 }
 
 // Floats, each after a space.
@@ -72,7 +72,7 @@ pub fn put_node(out: &mut [u8], at: usize, node: NodeId) -> usize
     ensures out_after { out.new ≡ text_at out.old at (node_text node) }
 {
     match node {
-        NodeId::Ground => hex::put_text(out, at, b"-"),
+        NodeId::Ground => hex_text::put_text(out, at, b"-"),
         NodeId::At(row) => put_whole(out, at, row as u64),
     }
 }
@@ -82,8 +82,8 @@ pub fn put_given(out: &mut [u8], at: usize, given: Given) -> usize
     ensures out_after { out.new ≡ text_at out.old at (given_text given) }
 {
     match given {
-        Given::Absent => hex::put_text(out, at, b"none"),
-        Given::Value(x) => hex::put_number(out, at, x),
+        Given::Absent => hex_text::put_text(out, at, b"none"),
+        Given::Value(x) => hex_text::put_number(out, at, x),
     }
 }
 
@@ -93,11 +93,11 @@ pub fn put_history(out: &mut [u8], at: usize, h: ChargeHistory) -> usize
     ensures out_after { out.new ≡ text_at out.old at (history_text h) }
 {
     let before = h.q_prev2;
-    let a = hex::put_number(out, at, h.q_prev);
-    let b = hex::put_text(out, a, b"/");
+    let a = hex_text::put_number(out, at, h.q_prev);
+    let b = hex_text::put_text(out, a, b"/");
     let c = put_given(out, b, before);
-    let d = hex::put_text(out, c, b"/");
-    hex::put_number(out, d, h.i_prev)
+    let d = hex_text::put_text(out, c, b"/");
+    hex_text::put_number(out, d, h.i_prev)
 }
 
 pub fn put_method(out: &mut [u8], at: usize, disc: Discretisation) -> usize
@@ -105,20 +105,20 @@ pub fn put_method(out: &mut [u8], at: usize, disc: Discretisation) -> usize
     ensures out_after { out.new ≡ text_at out.old at (method_text disc) }
 {
     match disc {
-        Discretisation::None => hex::put_text(out, at, b"none"),
+        Discretisation::None => hex_text::put_text(out, at, b"none"),
         Discretisation::Euler(h) => {
-            let n = hex::put_text(out, at, b"euler:");
-            hex::put_number(out, n, h)
+            let n = hex_text::put_text(out, at, b"euler:");
+            hex_text::put_number(out, n, h)
         }
         Discretisation::Trapezoid(h) => {
-            let n = hex::put_text(out, at, b"trap:");
-            hex::put_number(out, n, h)
+            let n = hex_text::put_text(out, at, b"trap:");
+            hex_text::put_number(out, n, h)
         }
         Discretisation::Gear(h, h_prev) => {
-            let a = hex::put_text(out, at, b"gear:");
-            let b = hex::put_number(out, a, h);
-            let c = hex::put_text(out, b, b":");
-            hex::put_number(out, c, h_prev)
+            let a = hex_text::put_text(out, at, b"gear:");
+            let b = hex_text::put_number(out, a, h);
+            let c = hex_text::put_text(out, b, b":");
+            hex_text::put_number(out, c, h_prev)
         }
     }
 }
@@ -128,12 +128,12 @@ pub fn put_between(out: &mut [u8], at: usize, pos: NodeId, neg: NodeId, x: f64) 
     ensures value { result ≡ end_of (length out.old) at (between_text pos neg x) }
     ensures out_after { out.new ≡ text_at out.old at (between_text pos neg x) }
 {
-    let a = hex::put_text(out, at, b" ");
+    let a = hex_text::put_text(out, at, b" ");
     let b = put_node(out, a, pos);
-    let c = hex::put_text(out, b, b":");
+    let c = hex_text::put_text(out, b, b":");
     let d = put_node(out, c, neg);
-    let e = hex::put_text(out, d, b":");
-    hex::put_number(out, e, x)
+    let e = hex_text::put_text(out, d, b":");
+    hex_text::put_number(out, e, x)
 }
 
 // A float after a comma.
@@ -141,8 +141,8 @@ fn put_item(out: &mut [u8], at: usize, x: f64) -> usize
     ensures value { result ≡ end_of (length out.old) at (item_text x) }
     ensures out_after { out.new ≡ text_at out.old at (item_text x) }
 {
-    let n = hex::put_text(out, at, b",");
-    hex::put_number(out, n, x)
+    let n = hex_text::put_text(out, at, b",");
+    hex_text::put_number(out, n, x)
 }
 
 // A list of floats after a space.
@@ -151,7 +151,7 @@ pub fn put_list(out: &mut [u8], at: usize, xs: &[f64]) -> usize
     ensures out_after { out.new ≡ text_at out.old at (list_text xs.now) }
 {
     if xs.len() == 0 {
-        return hex::put_text(out, at, b" -");
+        return hex_text::put_text(out, at, b" -");
     }
     let mut n = put_next(out, at, xs[0]);
     let mut i = 1;
@@ -184,7 +184,7 @@ fn put_item_whole(out: &mut [u8], at: usize, x: u64) -> usize
     ensures value { result ≡ end_of (length out.old) at (item_whole_text x) }
     ensures out_after { out.new ≡ text_at out.old at (item_whole_text x) }
 {
-    let n = hex::put_text(out, at, b",");
+    let n = hex_text::put_text(out, at, b",");
     put_whole(out, n, x)
 }
 
@@ -194,7 +194,7 @@ pub fn put_wholes(out: &mut [u8], at: usize, xs: &[usize]) -> usize
     ensures out_after { out.new ≡ text_at out.old at (wholes_text xs.now) }
 {
     if xs.len() == 0 {
-        return hex::put_text(out, at, b" -");
+        return hex_text::put_text(out, at, b" -");
     }
     let mut n = put_next_whole(out, at, xs[0] as u64);
     let mut i = 1;
@@ -218,7 +218,7 @@ pub fn put_columns(out: &mut [u8], at: usize, xs: &[u32]) -> usize
     ensures out_after { out.new ≡ text_at out.old at (wholes_text xs.now) }
 {
     if xs.len() == 0 {
-        return hex::put_text(out, at, b" -");
+        return hex_text::put_text(out, at, b" -");
     }
     let first = wide(xs[0]);
     let mut n = put_next_whole(out, at, first);

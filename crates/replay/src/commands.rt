@@ -2,7 +2,7 @@
 use crate::command::command_of;
 use crate::replies::{Session, ended, put_bad, put_name};
 use crate::{
-    bridge_calls, device_calls, device_text, function_calls, key_calls, layout_calls, load_calls,
+    bank_calls, device_calls, device_text, function_calls, key_calls, layout_calls, load_calls,
 };
 
 // Calls that read the device and leave it, and lines that do not touch it. A line without an answer ends where it begins.
@@ -24,8 +24,8 @@ fn asked(
         15 => device_text::put_state(out, words, session.present),
         16 => layout_calls::extra(words, out),
         17 => layout_calls::cells(words, line, out),
-        19 => bridge_calls::load(2, bank, line, out),
-        20 => bridge_calls::load(1, bank, line, out),
+        19 => bank_calls::load(2, bank, line, out),
+        20 => bank_calls::load(1, bank, line, out),
         99 => 0,
         _ => put_bad(out),
     }
@@ -43,11 +43,7 @@ pub fn answer(
         0..=3 => key_calls::call(session, number, line, out),
         5..=8 => device_calls::change(session, number, line, out),
         10 => load_calls::resolve(session, line, out),
-        18 => ended(
-            session,
-            number,
-            bridge_calls::place(bank, session, line, out),
-        ),
+        18 => ended(session, number, bank_calls::place(bank, session, line, out)),
         _ => ended(session, number, asked(session, bank, number, line, out)),
     }
 }

@@ -16,7 +16,7 @@ use record_words::record_of;
 use temperature::Kelvin;
 
 // What a call leaves: the row that refuses it, 0 where none does, the device's words, and as many first numbers for the answer.
-#[derive(Drop)]
+#[derive(Clone, Copy)]
 struct Outcome {
     row: u64,
     words: [f64; 113],
@@ -63,7 +63,7 @@ fn bind(before: [f64; 113], line: &[u8]) -> Outcome {
 }
 
 // The words of an evaluation but its voltages.
-#[derive(Drop)]
+#[derive(Clone, Copy)]
 struct EvalWords {
     good: bool,
     transient: bool,

@@ -62,15 +62,15 @@ fn put_value(out: &mut [u8], at: usize, w: &[f64; 113], k: usize) -> usize {
         54..=65 => put_node(out, at, node_at(w, k)),
         89..=108 => put_history(out, at, history_at(w, k)),
         109 => put_method(out, at, method_at(w, k)),
-        _ => hex::put_number(out, at, word_at(w, k, 0)),
+        _ => hex_text::put_number(out, at, word_at(w, k, 0)),
     }
 }
 
 // A name after a space, `=` and the value.
 fn put_field(out: &mut [u8], at: usize, name: &[u8], w: &[f64; 113], k: usize) -> usize {
-    let a = hex::put_text(out, at, b" ");
-    let b = hex::put_text(out, a, name);
-    let c = hex::put_text(out, b, b"=");
+    let a = hex_text::put_text(out, at, b" ");
+    let b = hex_text::put_text(out, a, name);
+    let c = hex_text::put_text(out, b, b"=");
     put_value(out, c, w, k)
 }
 
@@ -95,9 +95,9 @@ fn put_fields(out: &mut [u8], at: usize, names: &[u8], firsts: &[u8], w: &[f64; 
 // The state's text from the start of out on; a device that is not present has none.
 pub fn put_state(out: &mut [u8], words: [f64; 113], present: bool) -> usize {
     if !present {
-        return hex::put_text(out, 0, b"state nothing");
+        return hex_text::put_text(out, 0, b"state nothing");
     }
-    let n = hex::put_text(out, 0, b"state");
+    let n = hex_text::put_text(out, 0, b"state");
     put_fields(
         out,
         n,

@@ -10,7 +10,7 @@ use device::{ChargeHistory, Discretisation, Given};
 use temperature::Kelvin;
 
 // How many numbers a function answers, and these; none for words that name no function.
-#[derive(Drop)]
+#[derive(Clone, Copy)]
 struct Value {
     count: usize,
     x: f64,
@@ -127,7 +127,7 @@ fn of_floats(line: &[u8], count: usize) -> Value {
 }
 
 // A charge that may be absent, or a word that is none.
-#[derive(Drop)]
+#[derive(Clone, Copy)]
 struct ChargeWord {
     good: bool,
     charge: Given,

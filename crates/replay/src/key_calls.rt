@@ -13,7 +13,7 @@ use record_card::KeysOutcome;
 use record_words::{record_of, words_of};
 
 // Whether a line's words are keys, how many places of each list they fill, and how many unknown ones there is room for.
-#[derive(Drop)]
+#[derive(Clone, Copy)]
 struct Keys {
     good: bool,
     used: usize,
@@ -170,7 +170,7 @@ fn put_keys(out: &mut [u8], geometry: bool, row: u64, places: &[usize], count: u
     if geometry {
         k = 1;
     }
-    let n = hex::put_text(out, 0, word(b"card geometry", k));
+    let n = hex_text::put_text(out, 0, word(b"card geometry", k));
     put_places(out, n, places, count)
 }
 

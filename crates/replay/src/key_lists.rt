@@ -7,7 +7,7 @@ use crate::script::word::{skip_spaces, until, word_start};
 use crate::script_lists::Count;
 
 // How many bytes the key of a word has, and its value; or a word that is none.
-#[derive(Drop)]
+#[derive(Clone, Copy)]
 enum Key {
     Is(usize, f64),
     Not,
@@ -80,7 +80,7 @@ pub fn key_bytes(line: &[u8], k: usize, bytes: &mut [u8]) -> usize {
     while at < line.len() {
         let end = until(line, at + 1, b' ');
         let w = &line[at..end];
-        used = hex::put_text(bytes, used, first_bytes(w, key_length(w)));
+        used = hex_text::put_text(bytes, used, first_bytes(w, key_length(w)));
         at = skip_spaces(line, end);
     }
     used

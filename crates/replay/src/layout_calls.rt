@@ -13,12 +13,12 @@ pub fn extra(words: [f64; 113], out: &mut [u8]) -> usize {
     if o.refusal != 0 {
         return put_row(out, o.refusal);
     }
-    let n = hex::put_text(out, 0, b"extra");
+    let n = hex_text::put_text(out, 0, b"extra");
     put_next_whole(out, n, o.count as u64)
 }
 
 // The words of a layout: whether they are three lists, and how many places each of them lends.
-#[derive(Drop)]
+#[derive(Clone, Copy)]
 struct LentWords {
     good: bool,
     cells: usize,
@@ -65,7 +65,7 @@ fn lay_out_first(
 
 // The needed lengths.
 fn put_needed(out: &mut [u8], o: LayoutOutcome) -> usize {
-    let a = hex::put_text(out, 0, b"cells");
+    let a = hex_text::put_text(out, 0, b"cells");
     let b = put_next_whole(out, a, o.columns as u64);
     put_next_whole(out, b, o.rows as u64)
 }

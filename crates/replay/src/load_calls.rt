@@ -9,7 +9,7 @@ use record_words::record_of;
 use resolve::Resolution;
 
 // Direct current, 0, or transient, 1, with its alpha; or a word that is neither.
-#[derive(Drop)]
+#[derive(Clone, Copy)]
 struct Kind {
     good: bool,
     transient: u64,
@@ -40,7 +40,7 @@ fn kind_of(w: &[u8]) -> Kind {
 }
 
 // The words of a pattern: whether they are one, and how many columns and rows they fill.
-#[derive(Drop)]
+#[derive(Clone, Copy)]
 pub struct PatternWords {
     pub good: bool,
     pub cells: usize,
@@ -62,7 +62,7 @@ pub fn read_pattern(
 }
 
 // The words of a load: whether they are one, its kind, and how many numbers the right-hand side and the values have.
-#[derive(Drop)]
+#[derive(Clone, Copy)]
 pub struct LoadWords {
     pub good: bool,
     pub transient: u64,

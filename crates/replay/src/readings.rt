@@ -8,19 +8,19 @@ use crate::script_lists::Count;
 use device::Discretisation;
 use record::NodeRecord;
 
-#[derive(Drop)]
+#[derive(Clone, Copy)]
 pub struct NumberWord {
     pub good: bool,
     pub x: f64,
 }
 
-#[derive(Drop)]
+#[derive(Clone, Copy)]
 pub struct WholeWord {
     pub good: bool,
     pub n: u64,
 }
 
-#[derive(Drop)]
+#[derive(Clone, Copy)]
 pub struct MethodWord {
     pub good: bool,
     pub method: Discretisation,

@@ -9,7 +9,7 @@ use record_small_signal::{NoiseOutcome, ReactanceRecord, ReactancesOutcome};
 // as its 113 words: to the checker they are one list, where the device itself is a hundred fields that every step of every function
 // would write out. Before any card the device is that of a card with no keys, and is not present: calls are tested on it and none is
 // accepted. The last answer's text ends at `end`. After a `reset` the first session is to follow.
-#[derive(Drop)]
+#[derive(Clone, Copy)]
 pub struct Session {
     pub words: [f64; 113],
     pub present: bool,
@@ -52,7 +52,7 @@ pub fn left(session: Session, row: u64, words: [f64; 113], end: usize) -> Sessio
 }
 
 pub fn put_bad(out: &mut [u8]) -> usize {
-    hex::put_text(out, 0, b"bad")
+    hex_text::put_text(out, 0, b"bad")
 }
 
 // The refusal by a number. 100 is that of words that are not understood (`readings::row_if`).
@@ -60,13 +60,13 @@ pub fn put_row(out: &mut [u8], row: u64) -> usize {
     if row == 100 {
         return put_bad(out);
     }
-    let n = hex::put_text(out, 0, b"refused");
+    let n = hex_text::put_text(out, 0, b"refused");
     put_next_whole(out, n, row)
 }
 
 // A line's command, which is the answer of a call that has no other.
 pub fn put_name(out: &mut [u8], line: &[u8]) -> usize {
-    hex::put_text(out, 0, word(line, 0))
+    hex_text::put_text(out, 0, word(line, 0))
 }
 
 // The command, or the refusal.
@@ -78,12 +78,12 @@ pub fn put_done(out: &mut [u8], line: &[u8], row: u64) -> usize {
 }
 
 fn put_next_node(out: &mut [u8], at: usize, node: NodeId) -> usize {
-    let n = hex::put_text(out, at, b" ");
+    let n = hex_text::put_text(out, at, b" ");
     put_node(out, n, node)
 }
 
 pub fn put_bound(out: &mut [u8], extra: usize, drain: NodeId, source: NodeId) -> usize {
-    let a = hex::put_text(out, 0, b"bind");
+    let a = hex_text::put_text(out, 0, b"bind");
     let b = put_next_whole(out, a, extra as u64);
     let c = put_next_node(out, b, drain);
     put_next_node(out, c, source)
@@ -97,7 +97,7 @@ fn put_reactance(out: &mut [u8], at: usize, r: ReactanceRecord) -> usize {
 }
 
 fn put_capacitors(out: &mut [u8], o: ReactancesOutcome) -> usize {
-    let mut n = hex::put_text(out, 0, b"reactances");
+    let mut n = hex_text::put_text(out, 0, b"reactances");
     n = put_reactance(out, n, o.gs);
     n = put_reactance(out, n, o.gd);
     n = put_reactance(out, n, o.gb);
@@ -116,7 +116,7 @@ pub fn put_noise(out: &mut [u8], row: u64, o: NoiseOutcome) -> usize {
     if row != 0 {
         return put_row(out, row);
     }
-    let n = hex::put_text(out, 0, b"noise");
+    let n = hex_text::put_text(out, 0, b"noise");
     if o.tag == 0 {
         return n;
     }

@@ -12,7 +12,7 @@ pub use crate::script_lists::pair_list::pairs;
 pub use crate::script_lists::whole_list::wholes;
 
 // How many places were filled, or a word that is no such list or has no room.
-#[derive(Drop)]
+#[derive(Clone, Copy)]
 pub enum Count {
     Is(usize),
     Not,

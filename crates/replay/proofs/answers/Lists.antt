@@ -6,7 +6,7 @@ use native.Mathlib.Numerals.{add-one}
 use native.Mathlib.Omega.{arith}
 use lib.ListN.{length, take, drop, get_or, drop_of_length-le, length-take}
 use lib.Seq.{drop-cons, get_or-take}
-use Rattle.hex.proofs.Joining.{Written, joined, length_text, Left, finished, left_is}
+use Rattle.hex_text.proofs.Joining.{Written, joined, length_text, Left, finished, left_is}
 use Rattle.replay.specs.Text.{next_whole_text, each_by, list_by, places_text}
 
 module _ {A : Type 0} (text : A → List ℕ) (xs : List A) (i : ℕ) where

@@ -4,31 +4,31 @@ ghost use Rattle.replay.specs.Number.{number_of, whole_of, node_of, method_of, s
 
 use crate::script::word::{same, until};
 use device::{Discretisation, NodeId};
-use hex::Bits;
+use hex_text::Bits;
 
 // A float, or a word that is none.
-#[derive(Drop)]
+#[derive(Clone, Copy)]
 pub enum Number {
     Is(f64),
     Not,
 }
 
 // A whole number of 64 bits, or a word that is none.
-#[derive(Drop)]
+#[derive(Clone, Copy)]
 pub enum Whole {
     Is(u64),
     Not,
 }
 
 // A node, or a word that is none.
-#[derive(Drop)]
+#[derive(Clone, Copy)]
 pub enum Node {
     Is(NodeId),
     Not,
 }
 
 // An integration method, or a word that is none.
-#[derive(Drop)]
+#[derive(Clone, Copy)]
 pub enum Method {
     Is(Discretisation),
     Not,
@@ -44,8 +44,8 @@ pub fn read_number(w: &[u8]) -> Number
     if w.len() != 16 {
         return Number::Not;
     }
-    match hex::bits_at(w, 0) {
-        Bits::Is(b) => Number::Is(hex::float_of(b)),
+    match hex_text::bits_at(w, 0) {
+        Bits::Is(b) => Number::Is(hex_text::float_of(b)),
         Bits::Not => Number::Not,
     }
 }

@@ -4,7 +4,7 @@ ghost use Rattle.replay.specs.Lists.{byte_count_of, bytes_filled_by};
 
 use crate::script::word::same;
 use crate::script_lists::Count;
-use hex::digit;
+use hex_text::digit;
 
 // Bytes, from the first place on.
 pub fn bytes(w: &[u8], out: &mut [u8]) -> Count

@@ -8,7 +8,7 @@ use crate::script::word::{same, until};
 use crate::script_lists::Count;
 
 // A column has 32 bits, or the word is none.
-#[derive(Drop)]
+#[derive(Clone, Copy)]
 pub enum Column {
     Is(u32),
     Not,

@@ -8,7 +8,7 @@ use crate::script::word::{same, until};
 use crate::script_lists::Count;
 
 // An offset and a length, or a word that is no such pair.
-#[derive(Drop)]
+#[derive(Clone, Copy)]
 pub enum Pair {
     Are(usize, usize),
     Not,

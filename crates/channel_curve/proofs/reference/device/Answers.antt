@@ -1,0 +1,4 @@
+use Rattle.channel_curve.proofs.reference.device.Goals as goal
+
+pub returns : goal.returns
+returns c = cc

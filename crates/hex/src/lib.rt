@@ -1,6 +1,0 @@
-// Floats as text, for the programs: the 64 bits in sixteen hexadecimal digits.
-mod read;
-mod write;
-
-pub use read::{Bits, bits_at, digit, float_of};
-pub use write::{put_number, put_text};
