@@ -1,5 +1,5 @@
-/* The SPICE Level-1 MOSFET model: its calls for C and C++ on x86-64 Linux. Link libmivtolgya.a (`rt staticlib mivtolgya` writes it
- * to target/staticlib/), and beside it, in any order, libmivtolgya_bridge.a (`rt staticlib mivtolgya_bridge`) where a call on several
+/* The SPICE Level-1 MOSFET model: its calls for C and C++ on x86-64 Linux. Link libmivtolgya.a (`tools/archives.sh mivtolgya` writes it
+ * to target/staticlib/), and beside it, in any order, libmivtolgya_bridge.a (`tools/archives.sh mivtolgya_bridge`) where a call on several
  * devices is made: mivtolgya_load_block, mivtolgya_load_bridge, mivtolgya_load_bridge_resolved. docs/USING.md has the order of the
  * calls, the table of refusals, the keys with their ranges, and memory.
  *

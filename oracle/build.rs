@@ -1,7 +1,7 @@
 //! Assembles the published Rust in OUT_DIR. Nothing of it stands in this repository.
 //!
 //! FAIRCHILD_SRC names the folder that holds `crates/fairchild-core/src`. PORT_LIB names the port's static library of elementary
-//! functions (`rt staticlib elementary`).
+//! functions (`tools/archives.sh elementary`).
 //!
 //! device.rs and unmodelled.rs are taken whole. mosfet1.rs and temperature.rs are taken whole, with every call of `exp`, `ln`,
 //! `ln_1p` and `powf` turned to the port. Of tran.rs, reactive.rs and mna.rs, whose other parts need files that were not published,

@@ -4,7 +4,7 @@
   compare.py script ORACLE REPLAY FIRST LAST LINES   seeds FIRST to LAST, about LINES commands each
   compare.py curve ORACLE CURVE FIRST LAST LINES     the program `curve`, LINES lines for each seed
 
-ORACLE is this folder's program, REPLAY and CURVE are the port's (target/bin after `rt check`). Prints the number of answers compared, and
+ORACLE is this folder's program, REPLAY and CURVE are the port's (crates/NAME/out after `rt run`). Prints the number of answers compared, and
 for a difference the seed, the line and both answers. Exit status 1 if there was any.
 """
 import pathlib

@@ -12,7 +12,7 @@ fn main() {
         let archive = folder.join(format!("lib{name}.a"));
         println!("cargo:rerun-if-changed={}", archive.display());
         if !archive.exists() {
-            println!("cargo:warning={} is missing: run `rt staticlib {name}`, or set MIVTOLGYA_LIB to its folder", archive.display());
+            println!("cargo:warning={} is missing: run `tools/archives.sh {name}`, or set MIVTOLGYA_LIB to its folder", archive.display());
         }
         println!("cargo:rustc-link-lib=static={name}");
     }

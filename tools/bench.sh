@@ -6,7 +6,7 @@
 set -e
 : "${FAIRCHILD_SRC:?set FAIRCHILD_SRC to the folder of the published Rust sources}"
 for library in mivtolgya mivtolgya_bridge elementary; do
-    [ -e "target/staticlib/lib$library.a" ] || rt staticlib "$library"
+    [ -e "target/staticlib/lib$library.a" ] || tools/archives.sh "$library"
 done
 PORT_LIBS="$(pwd)/target/staticlib"
 export PORT_LIBS

@@ -1,7 +1,7 @@
 #!/usr/bin/env python3
 """Everything that a caller in C or Rust meets, held to the sources and to the compiled library.
 
-Run from the repository's root after `rt staticlib mivtolgya` and `rt staticlib mivtolgya_bridge`; .ci/run does all after the proofs. It
+Run from the repository's root after `tools/archives.sh`; .ci/run does all after the proofs. It
 compares every #[repr(C)] record, every export and every constant of include/mivtolgya.h and rust/ with crates/, and the tables of
 docs/USING.md with both; then it compiles and runs the C programs (gcc, g++), the Rust tests and examples (cargo), and the programs that
 README shows. What cannot be tried because a compiler is missing is said in a line. Ends with status 1 if one of the parts failed.
@@ -23,7 +23,7 @@ def fit_for_programs():
     for archive in (ARCHIVE, BRIDGE):
         if not os.path.exists(archive):
             name = os.path.basename(archive).removeprefix("lib").removesuffix(".a")
-            sys.exit(f"callers: FAILED: {archive} is missing: run `rt staticlib {name}` first")
+            sys.exit(f"callers: FAILED: {archive} is missing: run `tools/archives.sh {name}` first")
     return True
 
 

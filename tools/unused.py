@@ -1,7 +1,7 @@
 #!/usr/bin/env python3
 """Names that a file imports and does not use: `python3 tools/unused.py [FILE...]`, all crates without arguments.
 
-Reads `use` and `ghost use` lines of .antt and .rt files. A name counts as used where it, or a part of it between the marks `_` of an
+Reads `use` and `ghost use` lines of .antt and .rt files. A name counts as used where it, or a part of it between the marks `◌` of an
 operator, stands anywhere else in the file outside comments. Limits: a name that only a literal or an implicit step needs (as ℕ may
 be) is reported though it is needed; a name that stands in another meaning counts as used; a module brought in whole is tested by
 the name before its first dot. What it reports is to be removed by hand and proved again.
@@ -17,7 +17,7 @@ WHOLE = re.compile(r"^use ([^\s{]+)(?: as (\S+))?\s*$", re.M)
 
 
 def used(name, text):
-    parts = [p for p in re.split(r"_", name.strip("«»")) if p] if name.startswith("_") or name.endswith("_") else [name.strip("«»")]
+    parts = [p for p in name.strip("«»").split("◌") if p]
     return all(re.search(r"(?<![\w′'·-])" + re.escape(p) + r"(?![\w′'·-])", text) if re.match(r"\w", p) else p in text for p in parts)
 
 

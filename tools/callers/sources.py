@@ -39,7 +39,7 @@ def records():
     """Every #[repr(C)] struct: its name to its fields in order, each (name, type)."""
     found = {}
     for path in sorted(glob.glob("crates/*/src/*.rt")):
-        for name, body in re.findall(r"#\[repr\(C\)\]\npub struct (\w+) \{(.*?)\}", with_cells(path), re.S):
+        for name, body in re.findall(r"#\[repr\(C\)\]\n(?:#\[derive\([^)]*\)\]\n)?pub struct (\w+) \{(.*?)\}", with_cells(path), re.S):
             fields = (f.strip().removeprefix("pub ").split(": ") for f in re.split(r"[,\n]", body) if f.strip())
             found[OWN_STRUCTS.get(name, name)] = [(field, OWN_STRUCTS.get(kind, kind)) for field, kind in fields]
     if any(kind == "Cells" for fields in found.values() for _, kind in fields):
@@ -48,7 +48,9 @@ def records():
 
 
 def exports_of(crate, all_records):
-    """A crate's exported functions: each name to (parameters, result), each parameter (name, type)."""
+    """The exported functions of a crate, or of the crate NAME_c that exports it: each name to (parameters, result), each parameter (name, type)."""
+    if glob.glob(f"crates/{crate}_c"):
+        crate += "_c"
     found = {}
     # a device of a bank is the words of its record; header and wrapper lend the records
     words = f"[f64; {size('DeviceRecord', all_records) // 8}]"
@@ -82,53 +84,53 @@ def size(kind, all_records):
 def tags():
     """The numbers of stages, nodes, methods, polarities and of what may be absent, by the header's names without MIVTOLGYA_."""
     text = code("crates/record/specs/Records.antt")
-    found = {"STAGE_" + n.upper(): int(k) for n, k in re.findall(r"stageTag Stage\.(\w+) = (\d+)", text)}
-    for n, k in re.findall(r"methodRecord \(?Discretisation\.(\w+).*?tag = (\d+)", text):
+    found = {"STAGE_" + n.upper(): int(k) for n, k in re.findall(r"stage_tag Stage\.(\w+) = (\d+)", text)}
+    for n, k in re.findall(r"method_record \(?Discretisation\.(\w+).*?tag = (\d+)", text):
         found["METHOD_" + n.upper()] = int(k)
     for n, name in (("Ground", "NODE_GROUND"), (r"\(At i\)", "NODE_ROW")):
-        found[name] = int(re.search(rf"nodeRecord {n} = record {{ tag = (\d+)", text)[1])
+        found[name] = int(re.search(rf"node_record {n} = record {{ tag = (\d+)", text)[1])
     for n, name in (("Absent", "ABSENT"), (r"\(Value v\)", "PRESENT")):
-        found[name] = int(re.search(rf"givenRecord {n} = record {{ tag = (\d+)", text)[1])
-    pmos = int(re.search(r"cardOf \(eqb polarity (\d+)\)", code("crates/record_card/specs/Keys.antt"))[1])
+        found[name] = int(re.search(rf"given_record {n} = record {{ tag = (\d+)", text)[1])
+    pmos = int(re.search(r"card_of \(eqb polarity (\d+)\)", code("crates/record_card/specs/Keys.antt"))[1])
     found.update(PMOS=pmos, NMOS=1 - pmos)
-    found["VERSION"] = int(re.search(r"interfaceVersion = (\d+)", code("crates/interface/specs/Interface.antt"))[1])
+    found["VERSION"] = int(re.search(r"interface_version = (\d+)", code("crates/interface/specs/Interface.antt"))[1])
     return found
 
 
 def marks():
     """The numbers of a place that is skipped, ground's, and of one that is missing."""
-    return {n: int(k) for n, k in re.findall(r"^(skipped|missing)Number = (\d+)", code("crates/places/specs/Places.antt"), re.M)}
+    return {n: int(k) for n, k in re.findall(r"^(skipped|missing)_number = (\d+)", code("crates/places/specs/Places.antt"), re.M)}
 
 
 def layout_columns():
     """How many cells a device has at most, and how many without series resistances, by the laws that say so."""
-    laws = re.findall(r"^pub at-most-\d+ : .*length \(cellsOf t\) ≤ (\d+)$", code("crates/cells/proofs/Bounds.antt"), re.M)
+    laws = re.findall(r"^pub at_most_\d+ : .*length \(cells_of t\) ≤ (\d+)$", code("crates/cells/proofs/Bounds.antt"), re.M)
     return [int(n) for n in laws]
 
 
 def most_devices():
     """How many devices a bridge has at most."""
-    return int(re.search(r"^mostDevices = (\d+)$", code("crates/bridge/specs/Runs.antt"), re.M)[1])
+    return int(re.search(r"^most_devices = (\d+)$", code("crates/bridge/specs/Runs.antt"), re.M)[1])
 
 
 # the definitions that list a call's rows
 ROWS = {
-    "card": ["entries/specs/Entries keyRows", "card/specs/Card cardRows"],
-    "geometry": ["entries/specs/Entries keyRows", "geometry/specs/Geometry geometryRows"],
-    "scaling": ["setup/specs/Scaling scalingRows"],
-    "extra nodes": ["matrix_layout/specs/MatrixLayout extraNodesRows"],
-    "binding": ["setup/specs/Binding bindingRows"],
-    "layout": ["matrix_layout/specs/MatrixLayout layoutRows"],
-    "evaluation": ["rows/specs/Rows evalRows"],
-    "load": ["loading/specs/Loading loadRows"],
-    "resolving": ["resolve/specs/Resolve resolveRows"],
-    "resolved load": ["resolved_rows/specs/LoadResolved loadResolvedRows"],
-    "block load": ["bridge/specs/Bridge blockRows", "bridge/specs/Bridge devicesRows"],
-    "bridge load": ["bridge/specs/Bridge bridgeRows", "bridge/specs/Bridge devicesRows"],
-    "resolved bridge load": ["bank_resolved/specs/Resolved bridgeCelledRows", "bank_resolved/specs/Resolved celledRows"],
-    "commit": ["rows/specs/Rows commitRows"],
-    "noise": ["rows/specs/Rows noiseRows"],
-    "reactances": ["rows/specs/Rows reactanceRows"],
+    "card": ["entries/specs/Entries key_rows", "card/specs/Card card_rows"],
+    "geometry": ["entries/specs/Entries key_rows", "geometry/specs/Geometry geometry_rows"],
+    "scaling": ["setup/specs/Scaling scaling_rows"],
+    "extra nodes": ["matrix_layout/specs/MatrixLayout extra_nodes_rows"],
+    "binding": ["setup/specs/Binding binding_rows"],
+    "layout": ["matrix_layout/specs/MatrixLayout layout_rows"],
+    "evaluation": ["rows/specs/Rows eval_rows"],
+    "load": ["loading/specs/Loading load_rows"],
+    "resolving": ["resolve/specs/Resolve resolve_rows"],
+    "resolved load": ["resolved_rows/specs/LoadResolved load_resolved_rows"],
+    "block load": ["bridge/specs/Bridge block_rows", "bridge/specs/Bridge devices_rows"],
+    "bridge load": ["bridge/specs/Bridge bridge_rows", "bridge/specs/Bridge devices_rows"],
+    "resolved bridge load": ["bank_resolved/specs/Resolved bridge_celled_rows", "bank_resolved/specs/Resolved celled_rows"],
+    "commit": ["rows/specs/Rows commit_rows"],
+    "noise": ["rows/specs/Rows noise_rows"],
+    "reactances": ["rows/specs/Rows reactance_rows"],
 }
 
 
@@ -156,7 +158,7 @@ def unknown_tag():
 def constants(path):
     """The floats that a file of definitions names, by their bits."""
     found = {"+0": 0.0, "+1": 1.0}
-    for name, sign, bits in re.findall(r"^(\S+) = (neg \()?ofBits binary64 0x([0-9a-f_]+)", code(path), re.M):
+    for name, sign, bits in re.findall(r"^(\S+) = (neg \()?of_bits binary64 0x([0-9a-f_]+)", code(path), re.M):
         value = struct.unpack(">d", bytes.fromhex(bits.replace("_", "")))[0]
         found[name] = -value if sign else value
     return found
@@ -167,12 +169,12 @@ def keys():
     ends = constants("crates/keys/specs/Ranges.antt")
     ranges = {
         key: (kind == "ZeroOr", ends[least], ends[greatest])
-        for key, kind, least, greatest in re.findall(r"rangeOf (\w+) = (Within|ZeroOr) (\S+) (\S+)", code("crates/keys/specs/Ranges.antt"))
+        for key, kind, least, greatest in re.findall(r"range_of (\w+) = (Within|ZeroOr) (\S+) (\S+)", code("crates/keys/specs/Ranges.antt"))
     }
     names = code("crates/keys/specs/Names.antt")
     found = {}
     for table in ("card", "geometry"):
-        body = names[names.index(f"{table}Names =") :].split("∷ []")[0]
+        body = names[names.index(f"{table}_names =") :].split("∷ []")[0]
         for spelling, meaning in re.findall(r'"(\w*)" means (?:Sets )?(\w+)', body):
             entry = found.setdefault((table, meaning), {"spellings": [], "range": ranges.get(meaning)})
             entry["spellings"].append(spelling)
