@@ -224,8 +224,9 @@ fn charges_copy(q: Charges) -> Charges
     }
 }
 
-// ---- the device
+// ---- the device; copied into its callers, since as a call it would keep the record and a second device on the stack, 2 KB of it
 
+#[inline(always)]
 pub fn device_from(r: DeviceRecord) -> Mosfet1
     ensures { result ≡ device_from r }
 {
