@@ -2,13 +2,9 @@
 use Rattle.std.specs.Prelude.{ℕ, cond, List, ltb, Float}
 use Rattle.replay.specs.Number.{number_of, whole_of, before_colon, after_colon, has_colon}
 use Rattle.replay.specs.declared.script.number.Number.{Number}
-use Rattle.replay.specs.declared.script.number.Number.TheVariants as Number
 use Rattle.replay.specs.declared.script.number.Whole.{Whole}
-use Rattle.replay.specs.declared.script.number.Whole.TheVariants as Whole
 use Rattle.replay.specs.declared.script_lists.column_list.Column.{Column}
-use Rattle.replay.specs.declared.script_lists.column_list.Column.TheVariants as Column
 use Rattle.replay.specs.declared.script_lists.pair_list.Pair.{Pair}
-use Rattle.replay.specs.declared.script_lists.pair_list.Pair.TheVariants as Pair
 use Rattle.replay.specs.Lists.{Item, is, none}
 
 unfoldable pub float_item : Number → Item Float

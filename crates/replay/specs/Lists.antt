@@ -3,7 +3,6 @@ use Rattle.std.specs.Prelude.{ℕ, zero, suc, ◌+◌, ◌*◌, ◌/◌, ◌%◌
 use Rattle.hex_text.specs.Hex.{digit_of}
 use Rattle.replay.specs.Word.{same_bytes}
 use Rattle.replay.specs.declared.script_lists.Count.{Count}
-use Rattle.replay.specs.declared.script_lists.Count.TheVariants as Count
 
 -- what an item of a list writes, or nothing
 pub data Item (A : Type 0) : Type 0 where

@@ -3,19 +3,13 @@ use Rattle.std.specs.Prelude.{ℕ, ◌+◌, ◌-◌, ◌*◌, Bool, cond, List, 
 use Rattle.std.specs.Float.{nan, binary64}
 use Rattle.std.specs.Float.Ieee.{of_bits}
 use Rattle.device.specs.declared.Discretisation.{Discretisation}
-use Rattle.device.specs.declared.Discretisation.TheVariants as Discretisation
 use Rattle.device.specs.declared.NodeId.TheVariants as NodeId
 use Rattle.hex_text.specs.Hex.{bits_at}
 use Rattle.hex_text.specs.declared.read.Bits.{Bits}
-use Rattle.hex_text.specs.declared.read.Bits.TheVariants as Bits
 use Rattle.replay.specs.declared.script.number.Number.{Number}
-use Rattle.replay.specs.declared.script.number.Number.TheVariants as Number
 use Rattle.replay.specs.declared.script.number.Whole.{Whole}
-use Rattle.replay.specs.declared.script.number.Whole.TheVariants as Whole
 use Rattle.replay.specs.declared.script.number.Node.{Node}
-use Rattle.replay.specs.declared.script.number.Node.TheVariants as Node
 use Rattle.replay.specs.declared.script.number.Method.{Method}
-use Rattle.replay.specs.declared.script.number.Method.TheVariants as Method
 use Rattle.replay.specs.Word.{same_bytes, until_of}
 
 unfoldable pub float_of : Bits → Number

@@ -5,7 +5,6 @@ use mathlib.Core.Bool.{Bool, true, false, cond}
 use mathlib.Core.List.{List, [], ◌∷◌}
 use native.Mathlib.Omega.{arith}
 use Rattle.replay.specs.declared.script_lists.Count.{Count}
-use Rattle.replay.specs.declared.script_lists.Count.TheVariants as Count
 use Rattle.replay.specs.Lists.{Item, is_read, items, twos, counted, is_empty_list, count_of, byte_in, fit_bytes, byte_count_of}
 
 unfoldable pub Within : Count → ℕ → Type 0

@@ -1,12 +1,11 @@
 -- Bytes of two digits each.
-use Prim.Native.Nat.{ℕ, ◌+◌, ◌-◌, ◌*◌, ◌/◌, ◌%◌, ◌≤◌, ◌<◌}
+use Prim.Native.Nat.{ℕ, ◌+◌, ◌*◌, ◌/◌, ◌%◌, ◌≤◌, ◌<◌}
 use mathlib.Core.Path.{◌≡◌, ◌∙◌}
 use mathlib.Core.Bool.{true, false}
 use mathlib.Core.List.{List}
 use lib.ListN.{length}
 use borrow.Author.Tests.{eq-eqb, ne_eqb, lt-ltb, le-ltb}
 use Rattle.replay.specs.declared.script_lists.Count.{Count}
-use Rattle.replay.specs.declared.script_lists.Count.TheVariants as Count
 use Rattle.replay.specs.Lists.{is, none, twos, is_empty_list, byte_from, byte_in, fit_bytes, byte_count_of, bytes_filled_by}
 use Rattle.replay.proofs.script_lists.Filling.{Over}
 

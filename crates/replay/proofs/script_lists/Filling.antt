@@ -6,7 +6,6 @@ use mathlib.Core.List.{List, [], ◌∷◌}
 use native.Mathlib.Omega.{arith}
 use lib.ListN.{length, set, length-set}
 use Rattle.replay.specs.declared.script_lists.Count.{Count}
-use Rattle.replay.specs.declared.script_lists.Count.TheVariants as Count
 use Rattle.replay.specs.Lists.{Item, is, none, is_read, stored, counted, filled}
 
 pub record Going {A : Type 0} (read : List ℕ → Item A) (room : ℕ) (all : List (List ℕ)) (first : List A) (rest : List (List ℕ)) (n : ℕ) (out : List A) : Type 0 where

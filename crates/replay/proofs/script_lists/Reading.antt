@@ -6,7 +6,6 @@ use mathlib.Core.List.{List}
 use lib.ListN.{length, take, drop, set}
 use Rattle.replay.specs.Word.{until_of}
 use Rattle.replay.specs.declared.script_lists.Count.{Count}
-use Rattle.replay.specs.declared.script_lists.Count.TheVariants as Count
 use Rattle.replay.specs.Lists.{Item, is, none, items, counted, filled, is_empty_list, count_of, filled_by}
 use Rattle.replay.proofs.script_lists.Filling.{Going, Over, further, unread, full, finished}
 use Rattle.replay.proofs.script_lists.Cutting.{cut, last_item, next_item}

@@ -1,4 +1,3 @@
-use Prim.Native.Nat.{◌-◌}
 use mathlib.Core.List.{[], ◌∷◌}
 use Rattle.hex_text.specs.Text.{number_text}
 use Rattle.replay.specs.Text.{between_text, node_text}

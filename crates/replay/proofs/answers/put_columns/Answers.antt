@@ -1,10 +1,9 @@
-use Prim.Native.Nat.{◌-◌, ◌≤◌}
 use mathlib.Core.Path.{sym, ap}
 use mathlib.Core.List.{[], ◌∷◌}
 use native.Mathlib.Omega.{arith}
-use lib.ListN.{length, drop}
+use lib.ListN.{drop}
 use Rattle.replay.specs.Text.{next_whole_text, item_whole_text, each_by}
-use Rattle.hex_text.proofs.Joining.{Written, Left, begun, further, left_is}
+use Rattle.hex_text.proofs.Joining.{Written, begun, further, left_is}
 use Rattle.replay.proofs.answers.Lists.{written_as, each_first, none_listed, still_long, all_listed}
 use Rattle.replay.proofs.answers.put_columns.Goals as goal
 

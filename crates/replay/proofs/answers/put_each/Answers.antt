@@ -1,9 +1,8 @@
-use Prim.Native.Nat.{◌-◌, ◌≤◌}
 use native.Mathlib.Omega.{arith}
-use lib.ListN.{length, drop, get_or}
+use lib.ListN.{get_or}
 use lib.Ieee.{nan}
 use Rattle.replay.specs.Text.{next_text, each_text}
-use Rattle.hex_text.proofs.Joining.{Written, Left, begun, further, finished, left_is}
+use Rattle.hex_text.proofs.Joining.{Written, begun, further, finished, left_is}
 use Rattle.replay.proofs.answers.Lists.{each_first, each_end}
 use Rattle.replay.proofs.answers.put_each.Goals as goal
 

@@ -1,10 +1,7 @@
 use Prim.Native.Nat.{◌-◌, ◌≤◌}
-use native.Mathlib.Omega.{arith}
-use lib.ListN.{length, drop, get_or}
-use lib.Ieee.{nan}
-use Rattle.replay.specs.Text.{next_text, each_text}
-use Rattle.hex_text.proofs.Joining.{Written, Left, begun, further, finished, left_is}
-use Rattle.replay.proofs.answers.Lists.{each_first, each_end}
+use lib.ListN.{length, drop}
+use Rattle.replay.specs.Text.{each_text}
+use Rattle.hex_text.proofs.Joining.{Left}
 use Rattle.replay.proofs.answers.put_each.Given as goal
 
 abbrev pub invariant-loop-i : goal.invariant-loop-i

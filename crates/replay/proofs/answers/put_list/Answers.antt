@@ -1,10 +1,9 @@
-use Prim.Native.Nat.{◌-◌, ◌≤◌}
 use mathlib.Core.List.{[], ◌∷◌}
 use native.Mathlib.Omega.{arith}
-use lib.ListN.{length, drop, get_or}
+use lib.ListN.{drop, get_or}
 use lib.Ieee.{nan}
 use Rattle.replay.specs.Text.{next_text, item_text, each_by}
-use Rattle.hex_text.proofs.Joining.{Written, Left, begun, further, left_is}
+use Rattle.hex_text.proofs.Joining.{Written, begun, further, left_is}
 use Rattle.replay.proofs.answers.Lists.{each_first, none_listed, still_long, all_listed}
 use Rattle.replay.proofs.answers.put_list.Goals as goal
 

@@ -1,4 +1,3 @@
-use Prim.Native.Nat.{◌-◌}
 use mathlib.Core.List.{[], ◌∷◌}
 use Rattle.replay.specs.Text.{next_whole_text, whole_text}
 use Rattle.hex_text.proofs.Joining.{Written, joined}

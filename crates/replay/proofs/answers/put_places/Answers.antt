@@ -1,8 +1,7 @@
-use Prim.Native.Nat.{◌-◌, ◌≤◌}
 use native.Mathlib.Omega.{arith}
-use lib.ListN.{length, take, drop, get_or}
+use lib.ListN.{take, get_or}
 use Rattle.replay.specs.Text.{next_whole_text, places_text}
-use Rattle.hex_text.proofs.Joining.{Written, Left, begun, further, finished, left_is}
+use Rattle.hex_text.proofs.Joining.{Written, begun, further, finished, left_is}
 use Rattle.replay.proofs.answers.Lists.{places_first, places_end}
 use Rattle.replay.proofs.answers.put_places.Goals as goal
 

@@ -1,9 +1,7 @@
 use Prim.Native.Nat.{◌-◌, ◌≤◌}
-use native.Mathlib.Omega.{arith}
-use lib.ListN.{length, take, drop, get_or}
-use Rattle.replay.specs.Text.{next_whole_text, places_text}
-use Rattle.hex_text.proofs.Joining.{Written, Left, begun, further, finished, left_is}
-use Rattle.replay.proofs.answers.Lists.{places_first, places_end}
+use lib.ListN.{length, take, drop}
+use Rattle.replay.specs.Text.{places_text}
+use Rattle.hex_text.proofs.Joining.{Left}
 use Rattle.replay.proofs.answers.put_places.Given as goal
 
 abbrev pub invariant-loop-i : goal.invariant-loop-i

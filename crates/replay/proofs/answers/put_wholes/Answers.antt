@@ -1,9 +1,8 @@
-use Prim.Native.Nat.{◌-◌, ◌≤◌}
 use mathlib.Core.List.{[], ◌∷◌}
 use native.Mathlib.Omega.{arith}
-use lib.ListN.{length, drop, get_or}
+use lib.ListN.{drop, get_or}
 use Rattle.replay.specs.Text.{next_whole_text, item_whole_text, each_by}
-use Rattle.hex_text.proofs.Joining.{Written, Left, begun, further, left_is}
+use Rattle.hex_text.proofs.Joining.{Written, begun, further, left_is}
 use Rattle.replay.proofs.answers.Lists.{each_first, none_listed, still_long, all_listed}
 use Rattle.replay.proofs.answers.put_wholes.Goals as goal
 

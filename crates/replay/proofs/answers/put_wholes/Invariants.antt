@@ -1,10 +1,7 @@
 use Prim.Native.Nat.{◌-◌, ◌≤◌}
-use mathlib.Core.List.{[], ◌∷◌}
-use native.Mathlib.Omega.{arith}
-use lib.ListN.{length, drop, get_or}
-use Rattle.replay.specs.Text.{next_whole_text, item_whole_text, each_by}
-use Rattle.hex_text.proofs.Joining.{Written, Left, begun, further, left_is}
-use Rattle.replay.proofs.answers.Lists.{each_first, none_listed, still_long, all_listed}
+use lib.ListN.{length, drop}
+use Rattle.replay.specs.Text.{item_whole_text, each_by}
+use Rattle.hex_text.proofs.Joining.{Left}
 use Rattle.replay.proofs.answers.put_wholes.Given as goal
 
 abbrev pub invariant-loop-i : goal.invariant-loop-i

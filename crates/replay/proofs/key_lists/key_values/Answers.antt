@@ -1,7 +1,4 @@
-use Prim.Native.Nat.{◌-◌, ◌≤◌}
-use mathlib.Core.Path.{◌≡◌}
 use native.Mathlib.Omega.{arith}
-use lib.ListN.{length}
 use lib.ListN.{length-set}
 use Rattle.replay.proofs.key_lists.key_values.Goals as goal
 

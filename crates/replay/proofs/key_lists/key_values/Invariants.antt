@@ -1,8 +1,6 @@
 use Prim.Native.Nat.{◌-◌, ◌≤◌}
 use mathlib.Core.Path.{◌≡◌}
-use native.Mathlib.Omega.{arith}
 use lib.ListN.{length}
-use lib.ListN.{length-set}
 use Rattle.replay.proofs.key_lists.key_values.Given as goal
 
 abbrev pub invariant-loop-at : goal.invariant-loop-at

@@ -1,9 +1,9 @@
-use Prim.Native.Nat.{◌+◌, ◌-◌, ◌*◌, ◌≤◌, ◌<◌}
-use mathlib.Core.Path.{◌≡◌, sym, ◌∙◌}
+use Prim.Native.Nat.{◌+◌, ◌-◌, ◌*◌, ◌<◌}
+use mathlib.Core.Path.{sym, ◌∙◌}
 use native.Mathlib.Omega.{arith}
-use lib.ListN.{length, drop, get_or}
+use lib.ListN.{get_or}
 use borrow.Author.Tests.{eq-eqb, ne_eqb}
-use Rattle.replay.specs.Number.{whole_after, whole_of}
+use Rattle.replay.specs.Number.{whole_of}
 use Rattle.replay.proofs.script.Decimal.{all_read, below, above, too_large, digit_read}
 use Rattle.replay.proofs.script.number.read_whole.Goals.{then-n-eq1844674407370955161+else-d-gt5, else-n-eq1844674407370955161}
 use Rattle.replay.proofs.script.number.read_whole.Goals as goal

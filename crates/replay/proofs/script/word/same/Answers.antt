@@ -1,8 +1,5 @@
-use Prim.Native.Nat.{◌-◌, ◌≤◌}
-use mathlib.Core.Path.{◌≡◌, sym, ◌∙◌}
+use mathlib.Core.Path.{sym, ◌∙◌}
 use native.Mathlib.Omega.{arith}
-use lib.ListN.{length, drop}
-use Rattle.replay.specs.Word.{same_bytes}
 use Rattle.replay.proofs.script.Comparing.{other_length, compared, equal_byte, other_byte}
 use Rattle.replay.proofs.script.word.same.Goals as goal
 

@@ -1,9 +1,7 @@
 use Prim.Native.Nat.{◌-◌, ◌≤◌}
-use mathlib.Core.Path.{◌≡◌, sym, ◌∙◌}
-use native.Mathlib.Omega.{arith}
+use mathlib.Core.Path.{◌≡◌}
 use lib.ListN.{length, drop}
 use Rattle.replay.specs.Word.{same_bytes}
-use Rattle.replay.proofs.script.Comparing.{other_length, compared, equal_byte, other_byte}
 use Rattle.replay.proofs.script.word.same.Given as goal
 
 abbrev pub invariant-loop-i : goal.invariant-loop-i

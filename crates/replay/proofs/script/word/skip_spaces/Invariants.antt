@@ -1,10 +1,7 @@
-use Prim.Native.Nat.{suc, ◌+◌, ◌-◌, ◌≤◌}
+use Prim.Native.Nat.{◌+◌, ◌-◌, ◌≤◌}
 use mathlib.Core.Path.{◌≡◌}
-use native.Mathlib.Omega.{arith}
 use lib.ListN.{length, drop}
-use borrow.Author.Tests.{eq-eqb, ne_eqb}
-use Rattle.replay.specs.Word.{leading, is_space, skip_spaces_of}
-use Rattle.replay.proofs.script.Leading.{leading_end, leading_stops, leading_goes_on}
+use Rattle.replay.specs.Word.{leading, is_space}
 use Rattle.replay.proofs.script.word.skip_spaces.Given as goal
 
 abbrev pub invariant-loop-i : goal.invariant-loop-i

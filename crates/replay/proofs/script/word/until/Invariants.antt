@@ -1,11 +1,7 @@
-use Prim.Native.Nat.{suc, ◌+◌, ◌-◌, ◌≤◌}
-use mathlib.Core.Path.{◌≡◌, ap}
-use mathlib.Core.Bool.{not}
-use native.Mathlib.Omega.{arith}
+use Prim.Native.Nat.{◌+◌, ◌-◌, ◌≤◌}
+use mathlib.Core.Path.{◌≡◌}
 use lib.ListN.{length, drop}
-use borrow.Author.Tests.{eq-eqb, ne_eqb}
-use Rattle.replay.specs.Word.{leading, is_not, until_of}
-use Rattle.replay.proofs.script.Leading.{leading_end, leading_stops, leading_goes_on}
+use Rattle.replay.specs.Word.{leading, is_not}
 use Rattle.replay.proofs.script.word.until.Given as goal
 
 abbrev pub invariant-loop-i : goal.invariant-loop-i

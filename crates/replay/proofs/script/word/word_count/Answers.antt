@@ -1,8 +1,8 @@
-use Prim.Native.Nat.{ℕ, suc, ◌+◌, ◌-◌, ◌≤◌}
+use Prim.Native.Nat.{ℕ, suc, ◌+◌}
 use mathlib.Core.Path.{◌≡◌, sym, ◌∙◌, ap}
 use mathlib.Core.Bool.{true, false}
 use native.Mathlib.Omega.{arith}
-use lib.ListN.{length, drop, drop_of_length-le}
+use lib.ListN.{drop, drop_of_length-le}
 use Rattle.replay.specs.Word.{leading, is_space, words_in, word_count_of}
 use Rattle.replay.proofs.script.Counting.{skipping, no_space_behind, passing, starting}
 use Rattle.replay.proofs.script.word.word_count.Goals as goal

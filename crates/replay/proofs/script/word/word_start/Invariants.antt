@@ -1,8 +1,7 @@
-use Prim.Native.Nat.{ℕ, suc, ◌-◌, ◌≤◌}
-use mathlib.Core.Path.{◌≡◌, sym, ◌∙◌, ap}
-use native.Mathlib.Omega.{arith}
+use Prim.Native.Nat.{◌-◌, ◌≤◌}
+use mathlib.Core.Path.{◌≡◌}
 use lib.ListN.{length}
-use Rattle.replay.specs.Word.{word_start_of, skip_spaces_of, until_of}
+use Rattle.replay.specs.Word.{word_start_of}
 use Rattle.replay.proofs.script.word.word_start.Given as goal
 
 abbrev pub invariant-loop-left : goal.invariant-loop-left

@@ -1,11 +1,11 @@
-use Prim.Native.Nat.{◌-◌, ◌≤◌}
+use Prim.Native.Nat.{◌-◌}
 use mathlib.Core.Path.{◌≡◌, sym, ◌∙◌, ap}
 use mathlib.Core.Bool.{true, false}
 use native.Mathlib.Omega.{arith}
 use lib.ListN.{length, take, drop}
 use Rattle.replay.specs.Lists.{is, none, items, is_empty_list}
 use Rattle.replay.specs.Items.{number_in, float_item}
-use Rattle.replay.proofs.script_lists.Filling.{Going, begun}
+use Rattle.replay.proofs.script_lists.Filling.{begun}
 use Rattle.replay.proofs.script_lists.Reading.{empty_read, no_room, not_read, last_read, next_read}
 use Rattle.replay.proofs.script_lists.number_list.numbers.Goals as goal
 
