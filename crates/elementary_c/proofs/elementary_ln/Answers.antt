@@ -1,0 +1,6 @@
+use Rattle.elementary_c.proofs.elementary_ln.Goals as goal
+
+-- What `elementary::elementary_ln` promises is what this ensures.
+
+pub returns : goal.returns
+returns c = c.elementary_ln.ensures

@@ -1,0 +1,6 @@
+use Rattle.mivtolgya_bridge_c.proofs.mivtolgya_load_block.Goals as goal
+
+-- What `mivtolgya_bridge::mivtolgya_load_block` promises is what this ensures.
+
+pub returns : goal.returns
+returns c = c.mivtolgya_load_block.ensures
