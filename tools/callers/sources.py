@@ -89,7 +89,7 @@ def tags():
         found["METHOD_" + n.upper()] = int(k)
     for n, name in (("Ground", "NODE_GROUND"), (r"\(At i\)", "NODE_ROW")):
         found[name] = int(re.search(rf"node_record {n} = record {{ tag = (\d+)", text)[1])
-    for n, name in (("Absent", "ABSENT"), (r"\(Value v\)", "PRESENT")):
+    for n, name in (("None", "ABSENT"), (r"\(Some v\)", "PRESENT")):
         found[name] = int(re.search(rf"given_record {n} = record {{ tag = (\d+)", text)[1])
     pmos = int(re.search(r"card_of \(eqb polarity (\d+)\)", code("crates/record_card/specs/Keys.antt"))[1])
     found.update(PMOS=pmos, NMOS=1 - pmos)

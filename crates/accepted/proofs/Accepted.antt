@@ -9,7 +9,8 @@ use Rattle.device.specs.Refusals.{done}
 use Rattle.device.specs.declared.Mosfet1.{Mosfet1}
 use Rattle.device.proofs.Rows.{passed}
 use Rattle.keys.specs.declared.Key.TheVariants.{Nrd, Nrs}
-use Rattle.entries.specs.Entries.{entries_of, Keyed}
+use Rattle.entries.specs.Entries.{entries_of}
+use Rattle.entries.specs.declared.Keyed.{Keyed}
 use Rattle.card.specs.Card.{parameters_of, defaults_of, fresh_device, card_rows, card_of}
 use Rattle.geometry.specs.Geometry.{sized_to, sizes_given, geometry_rows, geometry_of}
 use Rattle.accepted.specs.Bounds.{InRange, ParametersInRange, SizesInRange}

@@ -8,19 +8,20 @@ use borrow.Author.Tests.{eqb-true}
 use lib.Dec.{eqb}
 use lib.Ieee.{Float, lt, eq, le, add, sub, sum, round, units, neg, of_bits}
 use lib.ListN.{get_or}
-use Rattle.exact.specs.Float64.{+1}
+use Rattle.std.specs.Prelude.{Option, unwrap_or}
+use Rattle.exact.specs.Float64.{+0, +1}
 use Rattle.temperature.specs.Temperature.{kelvin_of}
 use Rattle.temperature.specs.declared.Celsius.{Celsius}
 use Rattle.device.specs.Limits.{outside_temperatures}
 use Rattle.keys.specs.Names.{meaning_of}
-use Rattle.keys.specs.Picks.{key_number, is_set, pick}
+use Rattle.keys.specs.Picks.{key_number, is_set, pick, pick_option}
 use Rattle.keys.specs.Ranges.{range_of, outside_range, outside_of, tnom_outside}
 use Rattle.keys.specs.declared.Key.{Key}
 use Rattle.keys.specs.declared.Key.TheVariants.{Vto, Kp, Uo, Is, Js, Lambda, Gamma, Phi, Rd, Rs, Rsh, Kf, Af, Cgso, Cgdo, Cgbo, Cox, Tox, Cj, Cjsw, Pb, Mj, Mjsw, Fc, W, L, Nrd, Nrs, As, Ad, Ps, Pd}
 use Rattle.keys.specs.declared.Meaning.{Meaning}
 use Rattle.keys.specs.declared.Meaning.TheVariants.{Sets, Tnom, Unread, Unknown}
 use Rattle.keys.specs.declared.Table.TheVariants as Table
-use Rattle.entries.specs.Entries.{Entry, any_outside, any_tnom_outside}
+use Rattle.entries.specs.Entries.{Entry, settings_of, any_outside, any_tnom_outside}
 use Rattle.card.specs.Card.{pick_cox, pick_tnom, assigned, parameters_of, default_vto, defaults_of}
 use Rattle.card.specs.declared.Parameters.{Parameters}
 use Rattle.geometry.specs.Geometry.{sizes_of, fresh_sizes}
@@ -81,12 +82,15 @@ set_in_range k Tnom v t o = no t
 set_in_range k Unread v t o = no t
 set_in_range k Unknown v t o = no t
 
-cases : (b : Bool) {x y : Float} (P : Float → Type 0) → (b ≡ true → P x) → P y → P (cond b x y)
+cases : {A : Type 0} (b : Bool) {x y : A} (P : A → Type 0) → (b ≡ true → P x) → P y → P (cond b x y)
 cases true P f p = f refl
 cases false P f p = p
 
 pick_in_range : {k : Key} {old : Float} (m : Meaning) (v : Float) → InRange k old → outside_of m v ≡ false → InRange k (pick k old m v)
 pick_in_range {k} m v h o = cases (is_set k m) (InRange k) (λ t. set_in_range k m v t o) h
+
+option_in_range : {k : Key} (old : Option Float) (m : Meaning) (v : Float) → InRange k (unwrap_or old +0) → outside_of m v ≡ false → InRange k (unwrap_or (pick_option k old m v) +0)
+option_in_range {k} old m v h o = cases (is_set k m) (λ (x : Option Float). InRange k (unwrap_or x +0)) (λ t. set_in_range k m v t o) h
 
 cox_in_range : {old : Float} (m : Meaning) (v : Float) → OxideFrom old → outside_of m v ≡ false → OxideFrom (pick_cox old m v)
 cox_in_range m v h o =
@@ -108,15 +112,15 @@ assigned_in_range : (p : Parameters) (m : Meaning) (v : Float) → ParametersInR
 assigned_in_range p m v h o t =
     record {
       vto = pick_in_range m v h.vto o;
-      kp = pick_in_range m v h.kp o;
+      kp = option_in_range p.kp m v h.kp o;
       uo = pick_in_range m v h.uo o;
       is_bulk = pick_in_range m v h.is_bulk o;
       js = pick_in_range m v h.js o;
       lambda = pick_in_range m v h.lambda o;
       gamma = pick_in_range m v h.gamma o;
       phi = pick_in_range m v h.phi o;
-      rd = pick_in_range m v h.rd o;
-      rs = pick_in_range m v h.rs o;
+      rd = option_in_range p.rd m v h.rd o;
+      rs = option_in_range p.rs m v h.rs o;
       rsh = pick_in_range m v h.rsh o;
       kf = pick_in_range m v h.kf o;
       af = pick_in_range m v h.af o;
@@ -134,7 +138,7 @@ assigned_in_range p m v h o t =
     }
 
 keys_in_range : (p : Parameters) (es : List Entry) → ParametersInRange p → any_outside Table.Card es ≡ false → any_tnom_outside Table.Card es ≡ false → ParametersInRange (parameters_of p es)
-unfolding parameters_of any_outside any_tnom_outside
+unfolding parameters_of settings_of any_outside any_tnom_outside
 keys_in_range p [] h o t = h
 keys_in_range p (e ∷ es) h o t =
     let u = neither (outside_of (meaning_of Table.Card e.key) e.value) _ o in
@@ -201,7 +205,7 @@ sizes_assigned s m v h o =
     }
 
 sizes_in_range : (s : Sizes) (es : List Entry) → SizesInRange s → any_outside Table.Geometry es ≡ false → SizesInRange (sizes_of s es)
-unfolding sizes_of any_outside
+unfolding sizes_of settings_of any_outside
 sizes_in_range s [] h o = h
 sizes_in_range s (e ∷ es) h o =
     let u = neither (outside_of (meaning_of Table.Geometry e.key) e.value) _ o in

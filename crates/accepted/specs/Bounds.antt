@@ -1,6 +1,6 @@
 -- The bounds that hold of every parameter after an accepted card and an accepted geometry.
-use Rattle.std.specs.Prelude.{◌≡◌, false, Float}
-use Rattle.exact.specs.Float64.{◌⊘◌}
+use Rattle.std.specs.Prelude.{◌≡◌, false, Float, unwrap_or}
+use Rattle.exact.specs.Float64.{◌⊘◌, +0}
 use Rattle.temperature.specs.Temperature.{kelvin_of}
 use Rattle.device.specs.Limits.{outside_temperatures}
 use Rattle.keys.specs.Ranges.{range_of, outside_range}
@@ -19,18 +19,18 @@ pub data OxideFrom : Float → Type 0 where
   given : {x : Float} → InRange Cox x → OxideFrom x
   thickness : {t : Float} → InRange Tox t → OxideFrom (eps_ox ⊘ t)
 
--- every parameter of a card; the nominal temperature, in kelvin, lies within 200 to 500
+-- every parameter of a card, with 0 for a KP, RD or RS left out; the nominal temperature, in kelvin, lies within 200 to 500
 pub record ParametersInRange (p : Parameters) : Type 0 where
   pub vto : InRange Vto p.vto
-  pub kp : InRange Kp p.kp
+  pub kp : InRange Kp (unwrap_or p.kp +0)
   pub uo : InRange Uo p.uo
   pub is_bulk : InRange Is p.is_bulk
   pub js : InRange Js p.js
   pub lambda : InRange Lambda p.lambda
   pub gamma : InRange Gamma p.gamma
   pub phi : InRange Phi p.phi
-  pub rd : InRange Rd p.rd
-  pub rs : InRange Rs p.rs
+  pub rd : InRange Rd (unwrap_or p.rd +0)
+  pub rs : InRange Rs (unwrap_or p.rs +0)
   pub rsh : InRange Rsh p.rsh
   pub kf : InRange Kf p.kf
   pub af : InRange Af p.af

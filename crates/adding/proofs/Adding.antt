@@ -1,11 +1,11 @@
 -- Laws of adding by places: lists read one by one, and places behind the end.
-use mathlib.Core.Path.{◌≡◌, refl, subst}
+use mathlib.Core.Path.{◌≡◌, refl}
 use mathlib.Core.Bool.{Bool, true, false, cond}
 use mathlib.Core.List.{List, [], ◌∷◌, ◌++◌}
-use Prim.Native.Nat.{ℕ, ◌+◌, ◌≤◌, ◌<◌}
+use Prim.Native.Nat.{ℕ, zero, suc, ◌+◌, ◌≤◌, ◌<◌, min}
 use native.Mathlib.Numerals.{add-one}
 use native.Mathlib.Omega.{arith}
-use lib.ListN.{length, get_or, drop, drop_of_length-le, length-set}
+use lib.ListN.{length, get_or, drop, length-set}
 use lib.Seq.{set_out, drop-cons}
 use lib.Ieee.{Float, nan}
 use lib.Dec.{eqb}
@@ -24,14 +24,19 @@ unfolding add_at
 length_add xs p x = length-set xs p _
 
 -- the places and values from index k on
-pub add_more : (xs : List Float) (ps : List ℕ) (vs : List Float) (k : ℕ) → k < length ps → length ps ≡ length vs
+pub add_more : (xs : List Float) (ps : List ℕ) (vs : List Float) (k : ℕ) → k < length ps → k < length vs
     → add_all xs (drop k ps) (drop k vs) ≡ add_all (add_at xs (get_or ps k 0) (get_or vs k nan)) (drop (k + 1) ps) (drop (k + 1) vs)
 unfolding add_all
-add_more xs ps vs k h e = rw (add-one, drop-cons ps k 0 h, drop-cons vs k nan (subst (λ (n : ℕ). k < n) e h))
+add_more xs ps vs k h e = rw (add-one, drop-cons ps k 0 h, drop-cons vs k nan e)
 
-pub add_end : (xs : List Float) (ps : List ℕ) (vs : List Float) (k : ℕ) → length ps ≤ k → add_all xs (drop k ps) (drop k vs) ≡ xs
+pub add_end : (xs : List Float) (ps : List ℕ) (vs : List Float) (k : ℕ) → k ≡ min (length ps) (length vs) → add_all xs (drop k ps) (drop k vs) ≡ xs
 unfolding add_all
-add_end xs ps vs k h = rw (drop_of_length-le ps h)
+add_end xs [] vs zero h = refl
+add_end xs [] vs (suc k) h = absurd (omega arith)
+add_end xs (p ∷ ps) [] zero h = refl
+add_end xs (p ∷ ps) [] (suc k) h = absurd (omega arith)
+add_end xs (p ∷ ps) (v ∷ vs) zero h = absurd (omega arith)
+add_end xs (p ∷ ps) (v ∷ vs) (suc k) h = add_end xs ps vs k (omega arith)
 
 -- a node by its index; ground's lies behind the end
 by_test : (xs : List Float) (i : ℕ) (x : Float) (b : Bool) → (b ≡ true → length xs ≤ i) → add_at xs i x ≡ add_node (cond b Ground (At i)) x xs

@@ -11,8 +11,7 @@ use lib.Ieee.{Float, neg}
 use lib.Dec.{T, eqb}
 use borrow.Author.Tests.{ne_eqb}
 use Rattle.pattern.specs.Pattern.{cell_of, well_formed}
-use Rattle.pattern.specs.declared.Found.{Found}
-use Rattle.pattern.specs.declared.Found.TheVariants.{At as FoundAt, Absent}
+use Rattle.std.specs.Prelude.{Option, Some, None}
 use Rattle.pattern.proofs.Places.{cell_within}
 use Rattle.device.specs.declared.NodeId.{NodeId}
 use Rattle.device.specs.declared.NodeId.TheVariants.{Ground, At}
@@ -77,16 +76,16 @@ numbers_add P (c ∷ cs) (v ∷ vs) xs room =
 
 -- places that are found are below the numbers of skipped and missing cells
 pub record Small (P : Pattern) : Type 0 where
-  pub small : (r c p : ℕ) → cell_of P.columns P.offsets P.lengths r c ≡ FoundAt p → p < missing_number
+  pub small : (r c p : ℕ) → cell_of P.columns P.offsets P.lengths r c ≡ Some p → p < missing_number
 
 pub well_small : (P : Pattern) → well_formed P.columns P.offsets P.lengths (length P.columns) ≡ true → length P.columns ≤ missing_number → Small P
 well_small P well room = record { small = λ r c p e. omega (arith, cell_within P.columns P.offsets P.lengths _ well r c p e) }
 
 module _ (P : Pattern) (s : Small P) where
-  found_there : (r c : ℕ) (f : Found) → cell_of P.columns P.offsets P.lengths r c ≡ f → not (eqb (place_number (found_place f)) missing_number) ≡ there (found_place f)
+  found_there : (r c : ℕ) (f : Option ℕ) → cell_of P.columns P.offsets P.lengths r c ≡ f → not (eqb (place_number (found_place f)) missing_number) ≡ there (found_place f)
   unfolding place_number found_place there
-  found_there r c (FoundAt p) e = let h = s.small r c p e in simp (ne_eqb p missing_number (λ q. omega arith))
-  found_there r c Absent e = refl
+  found_there r c (Some p) e = let h = s.small r c p e in simp (ne_eqb p missing_number (λ q. omega arith))
+  found_there r c None e = refl
 
   pub number_there : (r c : NodeId) → not (eqb (number_of P r c) missing_number) ≡ there (place_of P r c)
   unfolding place_of place_number there

@@ -1,9 +1,9 @@
 // What the load of a whole bridge by cells does for all of a bank's devices: the numbers, asked of all of them before the first write, and the
-// loads in device order. Each step makes a record of a device's words by a function with no other caller: the compiler then reads of a record
-// what the step needs, and copies nothing.
+// loads in device order. Each step makes a record of a device's words for itself: the compiler then reads of a record what the step needs, and
+// copies nothing.
 #![tactic(auto)]
 
-ghost use Rattle.std.specs.Prelude.{◌≡◌, true, false, cond, leb, ltb, length};
+ghost use Rattle.std.specs.Prelude.{◌≡◌, true, false, leb, length};
 ghost use Rattle.resolved_rows.specs.ByNumbers.{nodes_at};
 ghost use Rattle.record_loading.specs.Load.{kind_from};
 ghost use Rattle.record_resolved.specs.Resolved.{resolved_side, resolved_matrix};
@@ -14,21 +14,16 @@ ghost use Rattle.device_bank.specs.Bank.{bank_good};
 ghost use Rattle.bank_resolved.specs.Resolved.{celled_of, load_celled_in_order};
 ghost use Rattle.bank_resolved.specs.Steps.{celled_row, lowest_number};
 
+use device::Refusal;
 use places::Nodes;
 
+// The lower of two numbers; 0 is none. They are numbers, and no `Refusal`s, since `record_resolved::row` answers a device's as the C interface
+// has it.
+#[tactic(auto, unfolding(bridge_devices::specs::Steps::lower))]
 fn lower(a: u64, b: u64) -> u64
     ensures { result ≡ lower a b }
 {
-    if a == 0 {
-        return b;
-    }
-    if b == 0 {
-        return a;
-    }
-    if a < b {
-        return a;
-    }
-    b
+    if a == 0 || (b != 0 && b < a) { b } else { a }
 }
 
 // The number of one device: its row, or 100 where a tag is unknown.
@@ -42,11 +37,18 @@ fn number_of(
 ) -> u64
     ensures { result ≡ resolved_number (record_of w.now) transient alpha cells.now rows values }
 {
-    let r = record_words::record_for_rows(w);
-    record_resolved::row(r, transient, alpha, cells, rows, values)
+    record_resolved::row(
+        record_words::record_of(w),
+        transient,
+        alpha,
+        cells,
+        rows,
+        values,
+    )
 }
 
 // The nodes' numbers as the cells have them: where no row refuses, they are the device's own.
+#[tactic(auto, unfolding(resolved_rows::specs::ByNumbers::nodes_at))]
 fn nodes_of(cells: &[usize; 37]) -> Nodes
     ensures { result ≡ nodes_at cells.now }
 {
@@ -61,7 +63,8 @@ fn nodes_of(cells: &[usize; 37]) -> Nodes
 }
 
 // The channel, the resistances and the junctions of a device that no row refuses. `transient` and `alpha` are asked for so that its number can
-// be said; nothing is compiled of them.
+// be said; nothing is compiled of them. That no row refuses stands in three contracts and is no type: it speaks of both slices' lengths, so a
+// type would hold these too, and each contract would say in its place that they are the lengths of the slices.
 fn add_static(
     w: &[f64; 113],
     transient: u64,
@@ -74,8 +77,7 @@ fn add_static(
     ensures { (rhs.new ≡ static_side 0 (record_of w.now) rhs.old)
         × (values.new ≡ static_matrix 0 (record_of w.now) cells.now values.old) }
 {
-    let r = record_words::record_for_static(w);
-    let d = from_record::device_from(r);
+    let d = from_record::device_from(record_words::record_of(w));
     let n = nodes_of(cells);
     load_resolved::add_static(n, d, cells, rhs, values);
 }
@@ -94,8 +96,7 @@ fn add_charges(
         × (values.new ≡ charged_matrix 0 (record_of w.now) transient alpha cells.now values.old) }
 {
     if transient == 1 {
-        let r = record_words::record_for_charges(w);
-        let d = from_record::device_from(r);
+        let d = from_record::device_from(record_words::record_of(w));
         let n = nodes_of(cells);
         charges_resolved::add_charges(n, d, alpha, cells, rhs, values);
     }
@@ -119,26 +120,18 @@ fn add_device(
 }
 
 // Row 13 by itself: a device lacks a list of cells.
+#[tactic(auto, unfolding(bridge_devices::specs::Steps::first_of))]
 fn lacking_row(lacking: bool) -> u64
     ensures { result ≡ first_of false false false false lacking }
 {
     if lacking {
-        return 13;
+        record::wide(u8::from(Refusal::MissingCell))
+    } else {
+        0
     }
-    0
 }
 
-// How many devices have a list of cells.
-fn fewer(devices: usize, lists: usize) -> usize
-    ensures { result ≡ cond (ltb lists devices) lists devices }
-{
-    if lists < devices {
-        return lists;
-    }
-    devices
-}
-
-// The lowest number that refuses one of the devices, asked from the last to the first; 0 where none does.
+// The lowest number that refuses one of the devices, those that have a list of cells first; 0 where none does.
 pub fn lowest_number(
     bank: &[[f64; 113]],
     transient: u64,
@@ -149,15 +142,12 @@ pub fn lowest_number(
 ) -> u64
     ensures { result ≡ lowest_number bank.now transient alpha cells.now rows values }
 {
-    let lacking = cells.len() < bank.len();
-    let mut number = lacking_row(lacking);
-    let mut i = fewer(bank.len(), cells.len());
-    while i > 0 {
-        i -= 1;
-        let own = number_of(&bank[i], transient, alpha, &cells[i], rows, values);
-        number = lower(own, number);
+    let mut number = 0;
+    for (w, list) in bank.iter().zip(cells) {
+        let own = number_of(w, transient, alpha, list, rows, values);
+        number = lower(number, own);
     }
-    number
+    lower(number, lacking_row(cells.len() < bank.len()))
 }
 
 // The loads of the devices in device order, where no row refuses one.
@@ -173,9 +163,7 @@ pub fn add_devices(
     ensures { record { side = rhs.new; matrix = values.new }
         ≡ load_celled_in_order (kind_from transient alpha) (celled_of bank.now cells.now) (record { side = rhs.old; matrix = values.old }) }
 {
-    let mut i: usize = 0;
-    while i < bank.len() {
-        add_device(&bank[i], transient, alpha, &cells[i], rhs, values);
-        i += 1;
+    for (w, list) in bank.iter().zip(cells) {
+        add_device(w, transient, alpha, list, rhs, values);
     }
 }

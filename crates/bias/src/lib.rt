@@ -44,21 +44,20 @@ pub struct JunctionStamp {
 }
 
 // Flip, then limit.
+#[tactic(auto, unfolding(crate::specs::Bias::kept_of))]
 pub fn keep(pol: f64, vto: f64, v: Voltages, limiter: bool, vgs_prev: f64, vds_prev: f64) -> Kept
     ensures { result ≡ kept_of pol vto v limiter vgs_prev vds_prev }
 {
-    let vs = v.vs;
-    let vgs = pol * (v.vg - vs);
-    let vds = pol * (v.vd - vs);
+    let vgs = pol * (v.vg - v.vs);
+    let vds = pol * (v.vd - v.vs);
     if limiter {
-        let vgs_kept = threshold::limit_vgs(vto, vgs, vgs_prev);
-        let vds_kept = threshold::limit_vds(vds, vds_prev);
-        return Kept {
-            vgs: vgs_kept,
-            vds: vds_kept,
-        };
+        Kept {
+            vgs: threshold::limit_vgs(vto, vgs, vgs_prev),
+            vds: threshold::limit_vds(vds, vds_prev),
+        }
+    } else {
+        Kept { vgs, vds }
     }
-    Kept { vgs, vds }
 }
 
 pub fn channel_answer(
@@ -71,16 +70,19 @@ pub fn channel_answer(
 ) -> Answer
     ensures { result ≡ channel_answer_of card geometry scaled v kept gmin }
 {
-    let pol = card.polarity;
-    let gamma = card.gamma;
-    let phi_t = scaled.phi_t;
-    let vgs = kept.vgs;
-    let vds = kept.vds;
+    let Card {
+        polarity: pol,
+        gamma,
+        lambda,
+        ..
+    } = card;
+    let Scaled { phi_t, .. } = scaled;
+    let Kept { vgs, vds } = kept;
     let phi_m_vbs = threshold::body_potential(phi_t, pol * (v.vb - v.vs));
     let vth = threshold::threshold(pol * scaled.vto_t, gamma, phi_t, phi_m_vbs);
     let slope = threshold::body_slope(gamma, phi_m_vbs);
     let beta = scaled.kp_t * geometry.w_over_l;
-    let at = channel::shichman_hodges(beta, vgs, vds, vth, card.lambda, slope);
+    let at = channel::shichman_hodges(beta, vgs, vds, vth, lambda, slope);
     Answer {
         vgs,
         vds,
@@ -98,9 +100,10 @@ pub fn junction_stamp_at(isat: f64, e: f64, pol: f64, v: f64, vt: f64, gmin: f64
 {
     let flipped = pol * v;
     let at = junction::junction_at(isat, e, flipped, vt, gmin);
-    let g = at.g;
-    let eq = junction::junction_offset(pol, at.i, g, flipped);
-    JunctionStamp { g, eq }
+    JunctionStamp {
+        g: at.g,
+        eq: junction::junction_offset(pol, at.i, at.g, flipped),
+    }
 }
 
 pub fn operating_point(
@@ -112,12 +115,15 @@ pub fn operating_point(
 ) -> OperatingPoint
     ensures { result ≡ operating_point_of pol a vbs bs bd }
 {
-    let ids = a.ids;
-    let gm = a.gm;
-    let gds = a.gds;
-    let gmbs = a.gmbs;
-    let vgs = a.vgs;
-    let vds = a.vds;
+    let Answer {
+        vgs,
+        vds,
+        ids,
+        gm,
+        gds,
+        gmbs,
+        ..
+    } = a;
     let jeq = channel::norton_current(ids, gm, pol * vgs, gds, pol * vds, gmbs, vbs);
     OperatingPoint {
         ids_eval: ids,

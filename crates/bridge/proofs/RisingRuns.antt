@@ -1,14 +1,15 @@
 -- Runs that rise: no run leaves the rows, and no two overlap. How one pass from the last run to the first knows that they rise.
 use mathlib.Core.Path.{◌≡◌, refl, sym, ap, ◌∙◌, subst}
-use mathlib.Core.Bool.{Bool, true, false, not, ◌&&◌}
+use mathlib.Core.Bool.{Bool, true, false, not, ◌&&◌, ◌||◌}
 use mathlib.Core.List.{List, [], ◌∷◌}
-use Prim.Native.Nat.{ℕ, zero, suc, ◌≤◌}
+use Prim.Native.Nat.{ℕ, suc, ◌+◌, ◌≤◌, ◌<◌}
 use native.Mathlib.Nat.{le_refl}
+use native.Mathlib.Numerals.{add-one}
 use native.Mathlib.Omega.{arith}
 use lib.ListN.{length, get_or, drop, drop_of_length-le}
 use lib.Seq.{drop-cons}
 use lib.Dec.{T, eqb, ltb}
-use borrow.Author.Tests.{eq-eqb, le-ltb, ltb-false, not-true}
+use borrow.Author.Tests.{le-ltb, ltb-false, not-true}
 use Rattle.bridge.specs.Runs.{any_of, Run, end_of, overlap, any_overlap, leaves, runs_of, bad_runs, bridge_refused}
 use Rattle.bridge.specs.Steps.{limit_of, rising}
 use Rattle.bridge.proofs.Runs.{no_run, length_runs, run_at}
@@ -16,10 +17,6 @@ use Rattle.bridge.proofs.Runs.{no_run, length_runs, run_at}
 both_hold : (p q : Bool) → (p && q) ≡ true → (p ≡ true) × (q ≡ true)
 both_hold true q e = (refl, e)
 both_hold false q e = absurd (subst T (sym e) tt)
-
-second_fails : (p q : Bool) → q ≡ false → (p && q) ≡ false
-second_fails true q e = e
-second_fails false q e = refl
 
 begins_behind : (p r s : Bool) → (p && false && r && s) ≡ false
 begins_behind true r s = refl
@@ -67,73 +64,56 @@ module _ (rows : ℕ) where
       let h = rises a rest e in
       rw (none_behind a rest h.0 h.1) (rising_apart rest h.1)
 
-  -- where the last runs do not rise, the whole does not
-  rest_fails : (runs : List Run) (k : ℕ) → rising rows (drop k runs) ≡ false → rising rows runs ≡ false
-  unfolding rising
-  rest_fails runs zero e = e
-  rest_fails [] (suc k) e = e
-  rest_fails (a ∷ rest) (suc k) e = second_fails (not (leaves (limit_of rows rest) a)) (rising rows rest) (rest_fails rest k e)
-
--- ---- the pass: the runs from the number k on rise, and the one before them must end at the limit
-pub record Asked (starts counts : List ℕ) (rows limit k : ℕ) : Type 0 where
-  pub same : length starts ≡ length counts
-  pub inside : k ≤ length starts
-  pub limit_is : limit ≡ limit_of rows (drop k (runs_of starts counts))
-  pub rise : rising rows (drop k (runs_of starts counts)) ≡ true
-
-module _ (starts counts : List ℕ) (rows : ℕ) where
+-- ---- the pass: the runs before the number k end where the next one begins, or before
+module _ (starts counts : List ℕ) (rows : ℕ) (same : length starts ≡ length counts) where
   abbrev runs : List Run
   runs = runs_of starts counts
 
-  pub none_asked : length starts ≡ length counts → Asked starts counts rows rows (length starts)
-  unfolding limit_of rising
-  none_asked e =
-      let l : length runs ≤ length starts = omega (arith, length_runs starts counts e) in
-      record {
-        same = e;
-        inside = le_refl (length starts);
-        limit_is = sym (ap (limit_of rows) (drop_of_length-le runs l));
-        rise = ap (rising rows) (drop_of_length-le runs l);
-      }
+  abbrev read : ℕ → Run
+  read k = record { start = get_or starts k 0; count = get_or counts k 0 }
 
-  module _ (limit i k : ℕ) (next : i ≡ suc k) (held : Asked starts counts rows limit i) where
-    h : Asked starts counts rows limit (suc k)
-    h = subst (Asked starts counts rows limit) next held
+  split : (k : ℕ) → k < length starts → drop k runs ≡ read k ∷ drop (k + 1) runs
+  split k h =
+      drop-cons runs k no_run (omega (arith, length_runs starts counts same))
+      ∙ ap (λ (a : Run). a ∷ drop (suc k) runs) (run_at starts counts same k h)
+      ∙ ap (λ (n : ℕ). read k ∷ drop n runs) (sym (add-one k))
 
-    abbrev read : Run
-    read = record { start = get_or starts k 0; count = get_or counts k 0 }
+  ended : (k : ℕ) → length starts ≤ k → drop k runs ≡ []
+  ended k h = drop_of_length-le runs (omega (arith, length_runs starts counts same))
 
-    split : drop k runs ≡ read ∷ drop (suc k) runs
-    split =
-        drop-cons runs k no_run (omega (arith, length_runs starts counts h.same, h.inside))
-        ∙ ap (λ (a : Run). a ∷ drop (suc k) runs) (run_at starts counts h.same k h.inside)
+  pub limit_next : (k : ℕ) → k < length starts → get_or starts k 0 ≡ limit_of rows (drop k runs)
+  unfolding limit_of
+  limit_next k h = sym (ap (limit_of rows) (split k h))
 
-    step : rising rows (drop k runs) ≡ (not (leaves limit read) && true)
+  pub limit_last : (k : ℕ) → length starts ≤ k → rows ≡ limit_of rows (drop k runs)
+  unfolding limit_of
+  limit_last k h = sym (ap (limit_of rows) (ended k h))
+
+  module _ (k limit : ℕ) (h : k < length starts) (is : limit ≡ limit_of rows (drop (k + 1) runs)) (so_far : rising rows runs ≡ rising rows (drop k runs)) where
+    step : rising rows runs ≡ (not (leaves limit (read k)) && rising rows (drop (k + 1) runs))
     unfolding rising
-    step =
-        ap (rising rows) split
-        ∙ ap (λ (n : ℕ). not (leaves n read) && rising rows (drop (suc k) runs)) (sym h.limit_is)
-        ∙ ap (λ (b : Bool). not (leaves limit read) && b) h.rise
+    step = so_far ∙ ap (rising rows) (split k h) ∙ ap (λ (n : ℕ). not (leaves n (read k)) && rising rows (drop (k + 1) runs)) (sym is)
 
-    pub one_fails : (r : Bool) → r ≡ leaves limit read → r ≡ true → false ≡ rising rows runs
-    one_fails r e t = sym (rest_fails rows runs k (step ∙ rw (← e, t)))
+    pub one_fails : (r : Bool) → r ≡ leaves limit (read k) → r ≡ true → false ≡ rising rows runs
+    one_fails r e t = sym (step ∙ rw (← e, t))
 
-    pub one_asked : (r : Bool) → r ≡ leaves limit read → r ≡ false → Asked starts counts rows (get_or starts k 0) k
-    unfolding limit_of
-    one_asked r e t = record {
-      same = h.same;
-      inside = omega (arith, h.inside);
-      limit_is = sym (ap (limit_of rows) split);
-      rise = step ∙ rw (← e, t);
-    }
+    pub one_rises : (r : Bool) → r ≡ leaves limit (read k) → r ≡ false → rising rows runs ≡ rising rows (drop (k + 1) runs)
+    one_rises r e t = step ∙ rw (← e, t)
 
-  pub all_asked : (limit k : ℕ) → k ≡ 0 → Asked starts counts rows limit k → true ≡ rising rows runs
-  all_asked limit k e h = sym h.rise ∙ ap (λ (n : ℕ). rising rows (drop n runs)) e
+  pub all_rose : (k : ℕ) → length starts ≤ k → rising rows runs ≡ rising rows (drop k runs) → true ≡ rising rows runs
+  unfolding rising
+  all_rose k h so_far = sym (so_far ∙ ap (rising rows) (ended k h))
 
--- ---- row 14 does not apply
-pub all_rise : (starts counts : List ℕ) (rows devices : ℕ) → devices ≤ 64 → length starts ≡ length counts
-    → (r : Bool) → r ≡ rising rows (runs_of starts counts) → r ≡ true → false ≡ bridge_refused starts counts rows devices
+-- ---- row 14 by the one pass: where the runs rise, none leaves the rows and no two overlap
+either_way : (r t u v w : Bool) → (r ≡ true → (v ≡ false) × (w ≡ false)) → (t || (u || v || w)) ≡ (t || u || (not r && (v || w)))
+either_way r true u v w h = refl
+either_way r false true v w h = refl
+either_way true false false v w h = rw ((h refl).0, (h refl).1)
+either_way false false false v w h = refl
+
+pub refused_by_pass : (starts counts : List ℕ) (rows devices : ℕ) → bridge_refused starts counts rows devices
+    ≡ (ltb 64 devices || not (eqb (length starts) (length counts)) || (not (rising rows (runs_of starts counts)) && (any_of (leaves rows) (runs_of starts counts) || any_overlap (runs_of starts counts))))
 unfolding bridge_refused bad_runs
-all_rise starts counts rows devices few same r e t =
-    let h = sym e ∙ t in
-    rw (le-ltb 64 devices few, eq-eqb (length starts) (length counts) same, rising_inside rows (runs_of starts counts) h, rising_apart rows (runs_of starts counts) h)
+refused_by_pass starts counts rows devices =
+    either_way (rising rows (runs_of starts counts)) (ltb 64 devices) (not (eqb (length starts) (length counts))) (any_of (leaves rows) (runs_of starts counts)) (any_overlap (runs_of starts counts))
+    (λ h. (rising_inside rows (runs_of starts counts) h, rising_apart rows (runs_of starts counts) h))

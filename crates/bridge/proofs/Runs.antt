@@ -1,4 +1,4 @@
--- Runs read one by one out of two slices, and their tests without an end worked out.
+-- Runs read one by one out of two slices.
 use mathlib.Core.Path.{◌≡◌, refl, sym, ap, ◌∙◌, subst}
 use mathlib.Core.Bool.{Bool, true, false, not, ◌&&◌, ◌||◌}
 use mathlib.Core.List.{List, [], ◌∷◌}
@@ -6,10 +6,13 @@ use Prim.Native.Nat.{ℕ, zero, suc, ◌+◌, ◌-◌, ◌≤◌, ◌<◌}
 use native.Mathlib.Nat.{suc_inj, suc-ne-zero, le_of_suc-le-suc, not-suc-le-zero}
 use native.Mathlib.Numerals.{add-one}
 use native.Mathlib.Omega.{arith}
-use lib.ListN.{length, get_or, drop, drop_of_length-le}
+use lib.ListN.{length, get_or, take, drop, drop_of_length-le}
+use Rattle.std.proofs.Common.{length-drop}
+use Rattle.std.proofs.lemmas.List.{take_all}
 use lib.Seq.{drop-cons}
 use lib.Dec.{T, eqb, leb, ltb}
 use borrow.Author.Tests.{eq-eqb, ne_eqb, lt-ltb, le-ltb, ltb-true, ltb-false, eqb-true, leb-false}
+use Rattle.std.specs.List.{zip, list_any}
 use Rattle.bridge.specs.Runs.{any_of, Run, overlap, any_overlap, leaves, runs_of, bad_runs, bridge_refused, block_refused}
 
 pub neither : (a b : Bool) → (a || b) ≡ false → (a ≡ false) × (b ≡ false)
@@ -59,21 +62,26 @@ run_at (s ∷ starts) [] e k h = absurd (suc-ne-zero (length starts) e)
 run_at (s ∷ starts) (n ∷ counts) e zero h = refl
 run_at (s ∷ starts) (n ∷ counts) e (suc k) h = run_at starts counts (suc_inj e) k (le_of_suc-le-suc h)
 
-module _ (p : Run → Bool) (starts counts : List ℕ) (same : length starts ≡ length counts) (k : ℕ) where
-  abbrev read : Run
-  read = record { start = get_or starts k 0; count = get_or counts k 0 }
+-- a condition asked of the runs of two slices, as they are read beside one another
+pub any_beside : (p : Run → Bool) (starts counts : List ℕ) → list_any (λ (q : ℕ × ℕ). p (record { start = q.0; count = q.1 })) (zip starts counts) ≡ any_of p (runs_of starts counts)
+unfolding any_of runs_of
+any_beside p [] counts = refl
+any_beside p (s ∷ starts) [] = refl
+any_beside p (s ∷ starts) (n ∷ counts) = ap (λ (b : Bool). p (record { start = s; count = n }) || b) (any_beside p starts counts)
 
-  inside : k < length starts → k < length (runs_of starts counts)
-  inside h = omega (arith, length_runs starts counts same)
+pub behind : (first : ℕ) (xs : List ℕ) → take (length xs - first) (drop first xs) ≡ drop first xs
+behind first xs = take_all (length xs - first) (drop first xs) (omega (arith, length-drop first xs))
 
-  pub run_here : k < length starts → (r : Bool) → r ≡ p read → r ≡ true → true ≡ any_of p (drop k (runs_of starts counts))
-  run_here h r e t = any_here p (runs_of starts counts) no_run k (inside h) (ap p (run_at starts counts same k h) ∙ sym e ∙ t)
-
-  pub run_later : k < length starts → (r : Bool) → r ≡ p read → r ≡ false → any_of p (drop k (runs_of starts counts)) ≡ any_of p (drop (k + 1) (runs_of starts counts))
-  run_later h r e t = any_later p (runs_of starts counts) no_run k (inside h) (ap p (run_at starts counts same k h) ∙ sym e ∙ t)
-
-  pub run_end : length starts ≤ k → false ≡ any_of p (drop k (runs_of starts counts))
-  run_end h = any_end p (runs_of starts counts) no_run k (omega (arith, length_runs starts counts same))
+pub drop_runs : (first : ℕ) (starts counts : List ℕ) → runs_of (drop first starts) (drop first counts) ≡ drop first (runs_of starts counts)
+unfolding runs_of
+drop_runs zero starts counts = refl
+drop_runs (suc k) [] counts = refl
+drop_runs (suc k) (s ∷ starts) [] = none (drop k starts)
+  where
+    none : (xs : List ℕ) → runs_of xs [] ≡ []
+    none [] = refl
+    none (x ∷ xs) = refl
+drop_runs (suc k) (s ∷ starts) (n ∷ counts) = drop_runs k starts counts
 
 -- ---- two of a list
 module _ (starts counts : List ℕ) (same : length starts ≡ length counts) where
@@ -99,86 +107,6 @@ module _ (starts counts : List ℕ) (same : length starts ≡ length counts) whe
   pub pair_end : (k : ℕ) → length starts ≤ k → false ≡ any_overlap (drop k runs)
   unfolding any_overlap
   pair_end k h = let l : length runs ≤ k = omega (arith, length_runs starts counts same) in sym (ap any_overlap (drop_of_length-le runs l))
-
--- ---- the tests
-moved : (a b n : ℕ) → a ≤ b → ltb (b - a) n ≡ ltb b (a + n)
-moved a b n h = go (ltb (b - a) n) refl
-  where
-    go : (t : Bool) → ltb (b - a) n ≡ t → t ≡ ltb b (a + n)
-    go true e = let l = ltb-true (b - a) n e in sym (lt-ltb b (a + n) (omega arith))
-    go false e = let l = ltb-false (b - a) n e in sym (le-ltb b (a + n) (omega arith))
-
-third_fails : (p q s : Bool) → false ≡ (p && q && false && s)
-third_fails true true s = refl
-third_fails true false s = refl
-third_fails false q s = refl
-
-fourth_fails : (p q r : Bool) → false ≡ (p && q && r && false)
-fourth_fails true true true = refl
-fourth_fails true true false = refl
-fourth_fails true false r = refl
-fourth_fails false q r = refl
-
-second_decides : (q : Bool) → q ≡ (true && q && true && true)
-second_decides true = refl
-second_decides false = refl
-
-first_decides : (p : Bool) → p ≡ (p && true && true && true)
-first_decides true = refl
-first_decides false = refl
-
-module _ (a n b m : ℕ) where
-  abbrev both : Bool
-  both = overlap (record { start = a; count = n }) (record { start = b; count = m })
-
-  pub first_empty : n ≡ 0 → false ≡ both
-  unfolding overlap
-  first_empty e = simp (eq-eqb n 0 e) (third_fails (ltb a (b + m)) (ltb b (a + n)) (not (eqb m 0)))
-
-  pub second_empty : m ≡ 0 → false ≡ both
-  unfolding overlap
-  second_empty e = simp (eq-eqb m 0 e) (fourth_fails (ltb a (b + m)) (ltb b (a + n)) (not (eqb n 0)))
-
-  module _ (some : n ≡ 0 → ⊥) (others : m ≡ 0 → ⊥) where
-    pub second_behind : a ≤ b → ltb (b - a) n ≡ both
-    unfolding overlap
-    second_behind h =
-        simp (lt-ltb a (b + m) (omega (arith, others)), ne_eqb n 0 some, ne_eqb m 0 others)
-        (moved a b n h ∙ second_decides (ltb b (a + n)))
-
-    pub first_behind : b ≤ a → ltb (a - b) m ≡ both
-    unfolding overlap
-    first_behind h =
-        simp (lt-ltb b (a + n) (omega (arith, some)), ne_eqb n 0 some, ne_eqb m 0 others)
-        (moved b a m h ∙ first_decides (ltb a (b + m)))
-
-pub begins_outside : (rows a n : ℕ) → rows < a → true ≡ leaves rows (record { start = a; count = n })
-unfolding leaves
-begins_outside rows a n h = sym (lt-ltb rows (a + n) (omega arith))
-
-pub ends_outside : (rows a n : ℕ) → a ≤ rows → ltb (rows - a) n ≡ leaves rows (record { start = a; count = n })
-unfolding leaves
-ends_outside rows a n h = moved a rows n h
-
--- ---- row 14, one condition after another
-module _ (starts counts : List ℕ) (rows devices : ℕ) where
-  pub too_many : 64 < devices → true ≡ bridge_refused starts counts rows devices
-  unfolding bridge_refused
-  too_many h = rw (lt-ltb 64 devices h)
-
-  module _ (few : devices ≤ 64) where
-    pub uncounted : (length starts ≡ length counts → ⊥) → true ≡ bridge_refused starts counts rows devices
-    unfolding bridge_refused bad_runs
-    uncounted h = rw (le-ltb 64 devices few, ne_eqb (length starts) (length counts) h)
-
-    module _ (same : length starts ≡ length counts) (l : Bool) (is : l ≡ any_of (leaves rows) (runs_of starts counts)) where
-      pub one_leaves : l ≡ true → true ≡ bridge_refused starts counts rows devices
-      unfolding bridge_refused bad_runs
-      one_leaves t = rw (le-ltb 64 devices few, eq-eqb (length starts) (length counts) same, ← is, t)
-
-      pub none_leaves : l ≡ false → (o : Bool) → o ≡ any_overlap (runs_of starts counts) → o ≡ bridge_refused starts counts rows devices
-      unfolding bridge_refused bad_runs
-      none_leaves t o e = rw (le-ltb 64 devices few, eq-eqb (length starts) (length counts) same, ← is, t) e
 
 -- ---- where row 14 does not apply, the block has a run, and it lies inside
 not_fails : (b : Bool) → not b ≡ false → b ≡ true

@@ -1,16 +1,13 @@
 -- Row 14 of the refusals: the runs of rows that the blocks of a bridge own in the shared right-hand side. Quotations are from document 02,
--- Wish 2.
+-- Wish 2. A run is the struct of the code: "A block owns a run of rows that begins somewhere inside the shared right-hand side", its first row,
+-- and how many rows it has.
+pub use Rattle.bridge.specs.declared.Run.{Run}
 use Rattle.std.specs.Prelude.{ℕ, ◌+◌, Bool, false, not, ◌&&◌, ◌||◌, List, [], ◌∷◌, length, eqb, leb, ltb}
 
 -- a condition holds of one in a list
 unfoldable pub any_of : {A : Type 0} → (A → Bool) → List A → Bool
 any_of p [] = false
 any_of p (x ∷ xs) = p x || any_of p xs
-
--- "A block owns a run of rows that begins somewhere inside the shared right-hand side": its first row, and how many rows it has
-pub record Run : Type 0 where
-  pub start : ℕ
-  pub count : ℕ
 
 -- the row behind its last one. The sum is of natural numbers, so none can overflow
 abbrev pub end_of : Run → ℕ

@@ -1,130 +1,134 @@
 // Row 14 of the refusals: the runs of rows that the blocks of a bridge own in the shared right-hand side.
 #![tactic(auto)]
 
-ghost use Rattle.std.specs.Prelude.{◌≡◌, length, drop};
+ghost use Rattle.std.specs.Prelude.{◌≡◌, ◌+◌, ◌<◌, length, drop, get_or};
 ghost use Rattle.bridge.specs.Runs.{any_of, leaves, overlap, any_overlap, runs_of, bad_runs, bridge_refused, block_refused};
-ghost use Rattle.bridge.specs.Steps.{rising};
+ghost use Rattle.bridge.specs.Steps.{limit_of, rising};
 
-// Two runs, each by its first row and its count, share a row. No end is worked out, so that none can overflow.
-fn overlap(a: usize, n: usize, b: usize, m: usize) -> bool
-    ensures { result ≡ overlap (record { start = a; count = n }) (record { start = b; count = m }) }
-{
-    if n == 0 {
-        return false;
-    }
-    if m == 0 {
-        return false;
-    }
-    if a <= b {
-        return b - a < n;
-    }
-    a - b < m
+// A run of rows: its first one, and how many there are.
+#[derive(Clone, Copy)]
+pub struct Run {
+    pub start: usize,
+    pub count: usize,
 }
 
-// A run shares a row with one of those from the number `first` on.
-fn overlaps_later(starts: &[usize], counts: &[usize], first: usize, a: usize, n: usize) -> bool
-    requires { length starts.now ≡ length counts.now }
-    ensures { result ≡ any_of (overlap (record { start = a; count = n })) (drop first (runs_of starts.now counts.now)) }
-{
-    let mut j = first;
-    while j < starts.len() {
-        if overlap(a, n, starts[j], counts[j]) {
-            return true;
-        }
-        j += 1;
-    }
-    false
-}
-
-fn any_overlap(starts: &[usize], counts: &[usize]) -> bool
-    requires { length starts.now ≡ length counts.now }
-    ensures { result ≡ any_overlap (runs_of starts.now counts.now) }
-{
-    let mut i: usize = 0;
-    while i < starts.len() {
-        if overlaps_later(starts, counts, i + 1, starts[i], counts[i]) {
-            return true;
-        }
-        i += 1;
-    }
-    false
-}
-
-// A run goes past so many rows. Its count is compared with what is left behind its first row, since the sum could overflow.
-fn leaves(a: usize, n: usize, rows: usize) -> bool
-    ensures { result ≡ leaves rows (record { start = a; count = n }) }
-{
-    if rows < a {
-        return true;
-    }
-    rows - a < n
-}
-
-fn any_leaves(starts: &[usize], counts: &[usize], rows: usize) -> bool
-    requires { length starts.now ≡ length counts.now }
-    ensures { result ≡ any_of (leaves rows) (runs_of starts.now counts.now) }
-{
-    let mut i: usize = 0;
-    while i < starts.len() {
-        if leaves(starts[i], counts[i], rows) {
-            return true;
-        }
-        i += 1;
-    }
-    false
-}
-
-// Each run ends where the next one begins, or before, and the last one inside so many rows. Then no run leaves the rows and no two overlap,
-// and the usual runs need this one pass, where `any_overlap` compares each run with each. They are asked from the last to the first: each
-// may end at the first row of the one behind it, so that no end is worked out.
-fn rising(starts: &[usize], counts: &[usize], rows: usize) -> bool
-    requires { length starts.now ≡ length counts.now }
-    ensures { result ≡ rising rows (runs_of starts.now counts.now) }
-{
-    let mut limit = rows;
-    let mut i = starts.len();
-    while i > 0 {
-        i -= 1;
-        let start = starts[i];
-        if leaves(start, counts[i], limit) {
+impl Run {
+    // It shares a row with another. No end is worked out, so that none can overflow.
+    #[tactic(auto, unfolding(crate::specs::Runs::overlap))]
+    fn overlaps(self, other: Run) -> bool
+        ensures { result ≡ overlap self other }
+    {
+        if self.count == 0 || other.count == 0 {
             return false;
         }
-        limit = start;
+        if self.start <= other.start {
+            other.start - self.start < self.count
+        } else {
+            self.start - other.start < other.count
+        }
     }
-    true
+
+    // It goes past so many rows. Its count is compared with what is left behind its first row, since the sum could overflow.
+    #[tactic(auto, unfolding(crate::specs::Runs::leaves))]
+    fn leaves(self, rows: usize) -> bool
+        ensures { result ≡ leaves rows self }
+    {
+        rows < self.start || rows - self.start < self.count
+    }
+}
+
+// The runs of all blocks, as they are lent: two slices, which row 14 holds to one length.
+#[derive(Clone, Copy)]
+pub struct BlockRuns<'a> {
+    pub starts: &'a [usize],
+    pub counts: &'a [usize],
+}
+
+impl BlockRuns<'_> {
+    fn any_leaves(self, rows: usize) -> bool
+        ensures { result ≡ any_of (leaves rows) (runs_of self.entry.starts.now self.entry.counts.now) }
+    {
+        self.starts
+            .iter()
+            .zip(self.counts)
+            .any(|(&start, &count)| Run { start, count }.leaves(rows))
+    }
+
+    // One of those from the number `first` on shares a row with a run.
+    fn any_overlaps(self, first: usize, run: Run) -> bool
+        requires inside { first < length self.starts.now + 1 }
+        requires same { length self.starts.now ≡ length self.counts.now }
+        ensures { result ≡ any_of (overlap run) (drop first (runs_of self.entry.starts.now self.entry.counts.now)) }
+    {
+        self.starts[first..]
+            .iter()
+            .zip(&self.counts[first..])
+            .any(|(&start, &count)| run.overlaps(Run { start, count }))
+    }
+
+    fn any_overlap(self) -> bool
+        requires same { length self.starts.now ≡ length self.counts.now }
+        ensures { result ≡ any_overlap (runs_of self.entry.starts.now self.entry.counts.now) }
+    {
+        for k in 0..self.starts.len() {
+            let run = Run {
+                start: self.starts[k],
+                count: self.counts[k],
+            };
+            if self.any_overlaps(k + 1, run) {
+                return true;
+            }
+        }
+        false
+    }
+
+    // The row at which a run must have ended: the first row of the next one, or the end of so many rows.
+    fn limit_behind(self, i: usize, rows: usize) -> usize
+        requires inside { i < length self.starts.now }
+        requires same { length self.starts.now ≡ length self.counts.now }
+        ensures { result ≡ limit_of rows (drop (i + 1) (runs_of self.entry.starts.now self.entry.counts.now)) }
+    {
+        if i + 1 < self.starts.len() {
+            self.starts[i + 1]
+        } else {
+            rows
+        }
+    }
+
+    // Each run ends where the next one begins, or before, and the last one inside so many rows. Then no run leaves the rows and no two
+    // overlap, and the usual runs need this one pass, where `any_overlap` compares each run with each.
+    fn rising(self, rows: usize) -> bool
+        requires same { length self.starts.now ≡ length self.counts.now }
+        ensures { result ≡ rising rows (runs_of self.entry.starts.now self.entry.counts.now) }
+    {
+        for i in 0..self.starts.len() {
+            let run = Run {
+                start: self.starts[i],
+                count: self.counts[i],
+            };
+            if run.leaves(self.limit_behind(i, rows)) {
+                return false;
+            }
+        }
+        true
+    }
 }
 
 // Row 14 of a bridge's load, of so many devices into a right-hand side of so many rows.
-pub fn bridge_refused(starts: &[usize], counts: &[usize], rows: usize, devices: usize) -> bool
-    ensures { result ≡ bridge_refused starts.now counts.now rows devices }
+#[tactic(auto, using(crate::proofs::RisingRuns::refused_by_pass))]
+pub fn bridge_refused(runs: BlockRuns, rows: usize, devices: usize) -> bool
+    ensures { result ≡ bridge_refused runs.entry.starts.now runs.entry.counts.now rows devices }
 {
-    if 64 < devices {
+    if 64 < devices || runs.starts.len() != runs.counts.len() {
         return true;
     }
-    if starts.len() != counts.len() {
-        return true;
-    }
-    if rising(starts, counts, rows) {
-        return false;
-    }
-    if any_leaves(starts, counts, rows) {
-        return true;
-    }
-    any_overlap(starts, counts)
+    !runs.rising(rows) && (runs.any_leaves(rows) || runs.any_overlap())
 }
 
 // Row 14 of a block's load: its number must be that of a run too.
-pub fn block_refused(
-    block: usize,
-    starts: &[usize],
-    counts: &[usize],
-    rows: usize,
-    devices: usize,
-) -> bool
-    ensures { result ≡ block_refused block starts.now counts.now rows devices }
+#[tactic(auto, unfolding(crate::specs::Runs::block_refused))]
+pub fn block_refused(block: usize, runs: BlockRuns, rows: usize, devices: usize) -> bool
+    ensures { result ≡ block_refused block runs.entry.starts.now runs.entry.counts.now rows devices }
 {
-    if bridge_refused(starts, counts, rows, devices) {
-        return true;
-    }
-    starts.len() <= block
+    bridge_refused(runs, rows, devices) || runs.starts.len() <= block
 }

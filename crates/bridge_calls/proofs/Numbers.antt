@@ -6,9 +6,16 @@ use Prim.Native.Nat.{ℕ, suc, ◌≤◌, ◌<◌}
 use lib.ListN.{length}
 use lib.Ieee.{Float}
 use borrow.Author.Tests.{le-leb, lt-leb}
-use Rattle.device.specs.Refusals.{Row, row_number, ◌when◌}
+use Rattle.std.specs.Prelude.{Result, Ok, Err}
+use Rattle.device.specs.Refusals.{Row, row_number, number, outcome, ◌when◌}
+use Rattle.device.specs.declared.Refusal.{Refusal}
 use Rattle.device_bank.specs.Bank.{devices_of, bank_good}
 use Rattle.bridge_calls.specs.Calls.{good_loads}
+
+-- a call that is not refused has the number 0
+pub not_refused : (r : Result (Unit {0}) Refusal) → ((x : Refusal) → r ≡ Err x → ⊥) → 0 ≡ number (outcome r)
+not_refused (Ok t) h = refl
+not_refused (Err x) h = absurd (h x refl)
 
 -- the tags and the kind
 module _ (bank : List (List Float)) (transient : ℕ) (g : Bool) (is : g ≡ bank_good bank) (n : ℕ) where

@@ -2,66 +2,60 @@
 // before anything is written, and its contributions.
 #![tactic(auto)]
 
-ghost use Rattle.std.specs.Prelude.{◌≡◌, true, length};
-ghost use Rattle.pattern.specs.Pattern.{well_formed};
-ghost use Rattle.device.specs.Refusals.{done};
+ghost use Rattle.std.specs.Prelude.{◌≡◌, length, is_some, IfSome};
+ghost use Rattle.pattern.specs.Pattern.{lists};
+ghost use Rattle.device.specs.Refusals.{done, number, outcome};
 ghost use Rattle.loading.specs.Loading.{load_of, Loaded};
 ghost use Rattle.bridge_devices.specs.Steps.{device_row, lower};
 
-use device::Mosfet1;
+use device::{Mosfet1, Refusal};
 use loading::LoadKind;
+use pattern::{Pattern, WellFormed};
 
-// The lower of two rows; 0 is none.
-pub fn lower(a: u8, b: u8) -> u8
-    ensures { result ≡ lower a b }
+// The lower of two rows, by their numbers: for `x.min(y)`, by the derived order of fifteen variants, the proof did not close.
+#[tactic(auto, using(loading::proofs::Rows::never_0), unfolding(crate::specs::Steps::lower))]
+pub fn lower(a: Result<(), Refusal>, b: Result<(), Refusal>) -> Result<(), Refusal>
+    ensures { number (outcome result) ≡ lower (number (outcome a)) (number (outcome b)) }
 {
-    if a == 0 {
-        return b;
+    match (a, b) {
+        (Err(x), Err(y)) if u8::from(x) < u8::from(y) => a,
+        (Err(_), Err(_)) => b,
+        (Err(_), Ok(())) => a,
+        (Ok(()), _) => b,
     }
-    if b == 0 {
-        return a;
-    }
-    if a < b {
-        return a;
-    }
-    b
 }
 
-// The first of rows 8, 10, 11, 12 and 13 that applies to a device, 0 where none does. `well` says that row 12 does not apply: the caller
-// has tested the pattern.
+// The first of rows 8, 10, 11, 12 and 13 that applies to a device. The pattern is handed on as row 12's test left it: none where the row
+// applies.
+#[tactic(auto, unfolding(crate::specs::Steps::device_row, crate::specs::Steps::first_of))]
 pub fn device_row(
     d: Mosfet1,
     kind: LoadKind,
-    well: bool,
     rows: usize,
-    columns: &[u32],
-    offsets: &[usize],
-    lengths: &[usize],
-) -> u8
-    requires { well ≡ true → well_formed columns.now offsets.now lengths.now (length columns.now) ≡ true }
-    ensures { result ≡ device_row d kind (record { columns = columns.now; offsets = offsets.now; lengths = lengths.now }) well rows }
+    pattern: Pattern<'_>,
+    tested: Option<WellFormed<'_>>,
+) -> Result<(), Refusal>
+    requires { IfSome tested (λ w. lists w.pattern ≡ lists pattern) }
+    ensures { number (outcome result) ≡ device_row d kind (lists pattern.entry) (is_some tested.entry) rows }
 {
-    let stage = d.stage;
-    let disc = d.disc;
-    if loading::nodes_outside(stage, d.terminals, rows, offsets.len()) {
-        return 8;
+    if loading::nodes_outside(d.stage, d.terminals, rows, pattern.offsets.len()) {
+        return Err(Refusal::Node);
     }
-    if loading::unevaluated(stage) {
-        return 10;
+    if d.stage.is_unevaluated() {
+        return Err(Refusal::Stage);
     }
-    if loading::alpha_outside(disc, kind) {
-        return 11;
+    if loading::alpha_outside(d.disc, kind) {
+        return Err(Refusal::Step);
     }
-    if !well {
-        return 12;
-    }
+    let Some(tested) = tested else {
+        return Err(Refusal::Pattern);
+    };
     let n = places::indices(d.terminals);
     let b = loading::branches(d, kind);
-    let cells = places::look_up(columns, offsets, lengths, n, b);
-    if cells.there {
-        return 0;
+    match places::look_up(tested, n, b) {
+        Some(_) => Ok(()),
+        None => Err(Refusal::MissingCell),
     }
-    13
 }
 
 // The load of a device that no row refuses.
@@ -70,25 +64,21 @@ pub fn add_device(
     kind: LoadKind,
     rhs: &mut [f64],
     values: &mut [f64],
-    columns: &[u32],
-    offsets: &[usize],
-    lengths: &[usize],
+    pattern: WellFormed<'_>,
 )
-    requires { load_of d kind (record { columns = columns.now; offsets = offsets.now; lengths = lengths.now }) rhs.old values.old ≡ done tt }
-    ensures { Loaded d kind (record { columns = columns.now; offsets = offsets.now; lengths = lengths.now }) rhs.old values.old (done tt) rhs.new values.new }
+    requires { load_of d kind (lists pattern.pattern) rhs.old values.old ≡ done tt }
+    ensures { Loaded d kind (lists pattern.entry.pattern) rhs.old values.old (done tt) rhs.new values.new }
 {
     let jacobian = stamps::jac_values(d);
     let residual = stamps::residual_values(d);
     let charge = loading::branches(d, kind);
-    let there = assembly::assemble(
+    let _there = assembly::assemble(
         d.terminals,
         jacobian,
         residual,
         charge,
         values,
         rhs,
-        columns,
-        offsets,
-        lengths,
+        pattern,
     );
 }

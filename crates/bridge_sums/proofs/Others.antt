@@ -9,8 +9,7 @@ use lib.Seq.{length-take-le, get_or-append-add, get_or-take, get_or-drop}
 use lib.Ieee.{Float, nan}
 use borrow.Author.Tests.{eqb-true}
 use Rattle.pattern.specs.Pattern.{pairs_fit, well_formed, cell_of}
-use Rattle.pattern.specs.declared.Found.{Found}
-use Rattle.pattern.specs.declared.Found.TheVariants.{At as FoundAt, Absent}
+use Rattle.std.specs.Prelude.{Option, Some, None}
 use Rattle.pattern.proofs.Places.{cell_within}
 use Rattle.pattern.proofs.Rows.{and_left, pairs_of}
 use Rattle.device.specs.Refusals.{done}
@@ -45,10 +44,10 @@ zero_others gets xs after u = record {
 }
 
 -- the place of a cell lies inside the values of a well-formed pattern
-found_at : (f : Found) (p : ℕ) → found_place f ≡ at p → f ≡ FoundAt p
+found_at : (f : Option ℕ) (p : ℕ) → found_place f ≡ at p → f ≡ Some p
 unfolding found_place
-found_at (FoundAt q) p e = cc
-found_at Absent p e = let z : ◌≡◌ {A = ℕ} 0 1 = cc in absurd (omega arith)
+found_at (Some q) p e = cc
+found_at None p e = let z : ◌≡◌ {A = ℕ} 0 1 = cc in absurd (omega arith)
 
 place_inside : (P : Pattern) (count : ℕ) → well_formed P.columns P.offsets P.lengths count ≡ true → (r c p : ℕ) → place_of P (At r) (At c) ≡ at p → p < count
 unfolding place_of well_formed

@@ -11,7 +11,7 @@ use Rattle.device.specs.declared.Discretisation.TheVariants.{None, Euler, Trapez
 use Rattle.device.specs.declared.Histories.{Histories}
 use Rattle.device.specs.declared.Mosfet1.{Mosfet1}
 use Rattle.reactive.specs.Charge.{recorded_of, has_step_of, advance_of}
-use Rattle.entries.specs.Entries.{Keyed}
+use Rattle.entries.specs.declared.Keyed.{Keyed}
 use Rattle.device.proofs.Rows.{unless_either}
 use Rattle.geometry.specs.Geometry.{geometry_of, geometry_rows, geometry_list_of}
 use Rattle.setup.specs.Scaling.{scaling_of, scaling_rows}

@@ -10,7 +10,7 @@ use Rattle.temperature.specs.declared.Kelvin.{Kelvin}
 use Rattle.device.specs.Refusals.{Outcome, done, refused}
 use Rattle.device.specs.declared.Mosfet1.{Mosfet1}
 use Rattle.device.specs.declared.NodeId.{NodeId}
-use Rattle.entries.specs.Entries.{Keyed}
+use Rattle.entries.specs.declared.Keyed.{Keyed}
 use Rattle.geometry.specs.Geometry.{geometry_of, geometry_list_of}
 use Rattle.setup.specs.Scaling.{scaling_of}
 use Rattle.setup.specs.Binding.{binding_of}

@@ -13,7 +13,7 @@ use Rattle.device.specs.declared.NodeId.{NodeId}
 use Rattle.device.specs.declared.OperatingPoint.{OperatingPoint}
 use Rattle.device.specs.declared.Stage.{Stage}
 use Rattle.device.specs.declared.Stage.TheVariants as Stages
-use Rattle.entries.specs.Entries.{Keyed}
+use Rattle.entries.specs.declared.Keyed.{Keyed}
 use Rattle.geometry.specs.Geometry.{geometry_of, geometry_list_of, geometry_stage}
 use Rattle.setup.specs.Scaling.{scaling_of, scaled_stage}
 use Rattle.setup.specs.Binding.{binding_of, outside_binding}

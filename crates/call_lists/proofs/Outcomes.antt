@@ -9,7 +9,7 @@ use Rattle.device.specs.Refusals.{done, refused}
 use Rattle.device.specs.declared.Mosfet1.{Mosfet1}
 use Rattle.device.specs.declared.NodeId.{NodeId}
 use Rattle.device.proofs.Rows.{NoneOf, passed, none_applies, number_0}
-use Rattle.entries.specs.Entries.{Keyed}
+use Rattle.entries.specs.declared.Keyed.{Keyed}
 use Rattle.geometry.specs.Geometry.{geometry_of, geometry_rows, sized_to, sizes_given}
 use Rattle.setup.specs.Scaling.{scaling_of, scaling_rows, scaled_at, scaled_to}
 use Rattle.setup.specs.Binding.{binding_of, binding_rows, bound_to, bound_terminals}

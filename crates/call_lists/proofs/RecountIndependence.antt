@@ -6,7 +6,7 @@ use lib.ListN.{length}
 use Rattle.device.specs.Refusals.{Outcome, refused}
 use Rattle.device.specs.declared.Histories.{Histories}
 use Rattle.device.specs.declared.Mosfet1.{Mosfet1}
-use Rattle.entries.specs.Entries.{Keyed}
+use Rattle.entries.specs.declared.Keyed.{Keyed}
 use Rattle.device.proofs.Rows.{unless_both}
 use Rattle.geometry.specs.Geometry.{geometry_of, geometry_rows, geometry_list_of}
 use Rattle.setup.specs.Scaling.{scaling_of, scaling_rows}

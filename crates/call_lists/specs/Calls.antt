@@ -1,18 +1,19 @@
 -- Calls on a device as values, what each answers, and the device that a list of them leaves.
-use Rattle.std.specs.Prelude.{ℕ, Bool, List, [], ◌∷◌, Float, length}
+use Rattle.std.specs.Prelude.{ℕ, Bool, List, [], ◌∷◌, Float, Option, length}
 use Rattle.temperature.specs.declared.Kelvin.{Kelvin}
 use Rattle.device.specs.Refusals.{Outcome, is_accepted, if_accepted, values_or}
 use Rattle.device.specs.declared.Mosfet1.{Mosfet1}
 use Rattle.device.specs.declared.NodeId.{NodeId}
-use Rattle.entries.specs.Entries.{Keyed}
+use Rattle.entries.specs.declared.Keyed.{Keyed}
 use Rattle.geometry.specs.Geometry.{geometry_of, geometry_list_of}
 use Rattle.setup.specs.Scaling.{scaling_of}
 use Rattle.setup.specs.Binding.{binding_of}
 use Rattle.mosfet1.specs.declared.steps.Conditions.{Conditions}
 use Rattle.mosfet1.specs.declared.steps.Evaluated.{Evaluated}
 use Rattle.model.specs.Calls.{eval_of, commit_of}
-use Rattle.model.specs.SmallSignal.{NoiseSource, noise_of, reactances_of}
-use Rattle.model.specs.declared.small_signal.FiveReactances.{FiveReactances}
+use Rattle.model.specs.SmallSignal.{noise_of, reactances_of}
+use Rattle.model.specs.declared.small_signal.NoiseSource.{NoiseSource}
+use Rattle.model.specs.declared.small_signal.Reactances.{Reactances}
 use Rattle.assembly.specs.Assembly.{Pattern, add_cells, add_sources}
 use Rattle.loading.specs.Loading.{load_of, if_done, jacobian_contributions, rhs_contributions}
 use Rattle.loading.specs.declared.LoadKind.{LoadKind}
@@ -35,8 +36,8 @@ pub data Answer : Type 0 where
   evaluation_answer : Outcome Evaluated → Answer
   loading_answer : Outcome Unit → (rhs values : List Float) → Answer
   commit_answer : Outcome Mosfet1 → Answer
-  noise_answer : Outcome (List NoiseSource) → Answer
-  reactances_answer : Outcome FiveReactances → Answer
+  noise_answer : Outcome (Option NoiseSource) → Answer
+  reactances_answer : Outcome Reactances → Answer
 
 -- the definitions that the calls' contracts cite
 unfoldable pub answer : Call → Mosfet1 → Answer

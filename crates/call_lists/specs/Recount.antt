@@ -1,14 +1,14 @@
 -- The recount: each charge branch's past, counted from the calls of a list. It reads the method, the capacitances, the geometry and the
 -- parameters that the calls put in force, and never the histories that the device itself holds.
-use Rattle.std.specs.Prelude.{cond, List, [], ◌∷◌, Float}
+use Rattle.std.specs.Prelude.{cond, List, [], ◌∷◌, Float, Some, None}
 use Rattle.exact.specs.Float64.{◌⊖◌, ◌⊗◌, +0}
 use Rattle.device.specs.declared.Card.{Card}
 use Rattle.device.specs.declared.ChargeHistory.{ChargeHistory}
 use Rattle.device.specs.declared.Charges.{Charges}
 use Rattle.device.specs.declared.Discretisation.{Discretisation}
-use Rattle.device.specs.declared.Discretisation.TheVariants.{None, Euler, Trapezoid, Gear}
+use Rattle.device.specs.declared.Discretisation.TheVariants as Discretisation
+use Rattle.device.specs.declared.Discretisation.TheVariants.{Euler, Trapezoid, Gear}
 use Rattle.device.specs.declared.Geometry.{Geometry}
-use Rattle.device.specs.declared.Given.TheVariants.{Absent, Value}
 use Rattle.device.specs.declared.Histories.{Histories}
 use Rattle.device.specs.declared.Mosfet1.{Mosfet1}
 use Rattle.device.specs.declared.Scaled.{Scaled}
@@ -21,21 +21,21 @@ use Rattle.call_lists.specs.Calls.{Call, geometry, scaling, binding, evaluation,
 
 -- "at first 0, none, 0": the last charge, the one before, the last current
 unfoldable pub nothing_held : ChargeHistory
-nothing_held = record { q_prev = +0; q_prev2 = Absent; i_prev = +0 }
+nothing_held = record { q_prev = +0; q_prev2 = None; i_prev = +0 }
 
 unfoldable pub at_first : Histories
 at_first = record { gs_hist = nothing_held; gd_hist = nothing_held; gb_hist = nothing_held; bs_hist = nothing_held; bd_hist = nothing_held }
 
 -- "the rounded `charge_current` of it and the three held"; without a step the last current stays, as `ChargeHistory` says
 unfoldable pub current_of : Discretisation → Float → ChargeHistory → Float
-current_of None q held = held.i_prev
+current_of Discretisation.None q held = held.i_prev
 current_of (Euler h) q held = (charge_current_of (Euler h) +0 q held).i
 current_of (Trapezoid h) q held = (charge_current_of (Trapezoid h) +0 q held).i
 current_of (Gear h h1) q held = (charge_current_of (Gear h h1) +0 q held).i
 
 -- a charge and its current put in; the last charge becomes the one before
 unfoldable pub put_in : Discretisation → Float → ChargeHistory → ChargeHistory
-put_in disc q held = record { q_prev = q; q_prev2 = Value held.q_prev; i_prev = current_of disc q held }
+put_in disc q held = record { q_prev = q; q_prev2 = Some held.q_prev; i_prev = current_of disc q held }
 
 pub record BranchCharges : Type 0 where
   pub gs : Float

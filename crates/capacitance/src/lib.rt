@@ -6,7 +6,7 @@ ghost use Rattle.capacitance.specs.Meyer.{meyer_of};
 ghost use Rattle.capacitance.specs.Depletion.{q_below_from, cj_above_from, q_above_from, cj_depl_mOf, q_depl_mOf, cj_graded_of, q_graded_of, q_depl_of};
 
 use channel::Region;
-use elementary::{four_powers, fractional_powers, pow, two_powers};
+use elementary::{fractional_powers, pow, powers};
 
 // The channel's capacitance as shared among gate-source, gate-drain and gate-bulk.
 #[derive(Clone, Copy)]
@@ -86,12 +86,12 @@ fn part(fc: f64, pb_t: f64, c0: f64, v: f64, m: f64) -> Depletion
         return Depletion { c: 0.0, q: 0.0 };
     }
     if v < fc * pb_t {
-        let x = two_powers(1.0 - v / pb_t, -m, 1.0 - m);
-        let q = charge(pb_t, c0, m, x.second);
-        return Depletion { c: c0 * x.first, q };
+        let [k, p] = powers(1.0 - v / pb_t, [-m, 1.0 - m]);
+        let q = charge(pb_t, c0, m, p);
+        return Depletion { c: c0 * k, q };
     }
-    let x = two_powers(1.0 - fc, 1.0 - m, 1.0 + m);
-    depl_above(fc, pb_t, c0, v, m, x.first, x.second)
+    let [p, k] = powers(1.0 - fc, [1.0 - m, 1.0 + m]);
+    depl_above(fc, pb_t, c0, v, m, p, k)
 }
 
 // A junction's, by the powers of one base; where a part has no capacitance only those of the other are taken.
@@ -114,17 +114,17 @@ fn by_parts(fc: f64, pb_t: f64, mj: f64, mjsw: f64, bottom: f64, sidewall: f64, 
         };
     }
     if v < fc * pb_t {
-        let x = fractional_powers(1.0 - v / pb_t, mj, mjsw);
-        let q_bot = charge(pb_t, bottom, mj, x.second);
-        let q_sw = charge(pb_t, sidewall, mjsw, x.fourth);
+        let [k_bot, p_bot, k_sw, p_sw] = fractional_powers(1.0 - v / pb_t, mj, mjsw);
+        let q_bot = charge(pb_t, bottom, mj, p_bot);
+        let q_sw = charge(pb_t, sidewall, mjsw, p_sw);
         return Depletion {
-            c: bottom * x.first + sidewall * x.third,
+            c: bottom * k_bot + sidewall * k_sw,
             q: q_bot + q_sw,
         };
     }
-    let x = four_powers(1.0 - fc, 1.0 - mj, 1.0 + mj, 1.0 - mjsw, 1.0 + mjsw);
-    let b = depl_above(fc, pb_t, bottom, v, mj, x.first, x.second);
-    let s = depl_above(fc, pb_t, sidewall, v, mjsw, x.third, x.fourth);
+    let [p_bot, k_bot, p_sw, k_sw] = powers(1.0 - fc, [1.0 - mj, 1.0 + mj, 1.0 - mjsw, 1.0 + mjsw]);
+    let b = depl_above(fc, pb_t, bottom, v, mj, p_bot, k_bot);
+    let s = depl_above(fc, pb_t, sidewall, v, mjsw, p_sw, k_sw);
     Depletion {
         c: b.c + s.c,
         q: b.q + s.q,
@@ -143,10 +143,8 @@ pub fn cj_and_q_depl(
 ) -> Depletion
     ensures { (result.c ≡ cj_graded_of fc pb_t mj mjsw bottom sidewall v) × (result.q ≡ q_graded_of fc pb_t mj mjsw bottom sidewall v) }
 {
-    if bottom == 0.0 {
-        if sidewall == 0.0 {
-            return Depletion { c: 0.0, q: 0.0 };
-        }
+    if bottom == 0.0 && sidewall == 0.0 {
+        return Depletion { c: 0.0, q: 0.0 };
     }
     by_parts(fc, pb_t, mj, mjsw, bottom, sidewall, v)
 }
@@ -169,14 +167,15 @@ fn q_part(fc: f64, pb_t: f64, c0: f64, v: f64, m: f64) -> f64
 pub fn q_depl(g: Grading, bot: f64, sw: f64, v: f64) -> f64
     ensures { result ≡ q_depl_of g bot sw v }
 {
-    let fc = g.fc;
-    let pb_t = g.pb_t;
-    let mj = g.mj;
-    let mjsw = g.mjsw;
-    let cj_t_factor = g.cj_t_factor;
-    let cjsw_t_factor = g.cjsw_t_factor;
-    let bottom = bot * cj_t_factor;
-    let sidewall = sw * cjsw_t_factor;
+    let Grading {
+        fc,
+        pb_t,
+        mj,
+        mjsw,
+        ..
+    } = g;
+    let bottom = bot * g.cj_t_factor;
+    let sidewall = sw * g.cjsw_t_factor;
     if bottom == 0.0 {
         if sidewall == 0.0 {
             return 0.0;
@@ -187,8 +186,8 @@ pub fn q_depl(g: Grading, bot: f64, sw: f64, v: f64) -> f64
         return q_part(fc, pb_t, bottom, v, mj) + 0.0;
     }
     if v < fc * pb_t {
-        let x = two_powers(1.0 - v / pb_t, 1.0 - mj, 1.0 - mjsw);
-        return charge(pb_t, bottom, mj, x.first) + charge(pb_t, sidewall, mjsw, x.second);
+        let [p_bot, p_sw] = powers(1.0 - v / pb_t, [1.0 - mj, 1.0 - mjsw]);
+        return charge(pb_t, bottom, mj, p_bot) + charge(pb_t, sidewall, mjsw, p_sw);
     }
     let d = by_parts(fc, pb_t, mj, mjsw, bottom, sidewall, v);
     d.q

@@ -1,27 +1,18 @@
 -- What the card's proofs share: one key more, and the call's answers behind rows 1 to 4.
-use mathlib.Core.Path.{◌≡◌, sym, ap, ◌∙◌}
+use mathlib.Core.Path.{◌≡◌, ◌∙◌}
 use mathlib.Core.Bool.{Bool, true, false, cond}
 use mathlib.Core.List.{List, [], ◌∷◌}
-use Prim.Native.Nat.{ℕ, ◌+◌, ◌<◌}
-use native.Mathlib.Numerals.{add-one}
-use lib.Ieee.{Float, nan}
-use lib.ListN.{length, get_or}
+use Prim.Native.Nat.{ℕ}
+use lib.Ieee.{Float}
+use lib.ListN.{length}
 use lib.Seq.{sets}
 use Rattle.device.specs.Refusals.{unless, done, refused, ◌when◌}
 use Rattle.device.proofs.Branches.{cond_yes, cond_no}
 use Rattle.device.proofs.Rows.{NoneOf, later_decide}
-use Rattle.keys.specs.Names.{meaning_of}
 use Rattle.keys.specs.declared.Table.TheVariants as Table
-use Rattle.entries.specs.Entries.{entries_of, key_at, unknown_from, unknown_count, any_tnom_outside, key_rows, keys_of}
-use Rattle.entries.proofs.Entries.{Paired, rest, entry_step}
+use Rattle.entries.specs.Entries.{entries_of, unknown_from, unknown_count, any_tnom_outside, key_rows, keys_of}
 use Rattle.entries.proofs.Rows.{refused_keys}
-use Rattle.card.specs.Card.{assigned, parameters_of, defaults_of, fresh_device, card_rows, card_of, card_list_of}
-use Rattle.card.specs.declared.Parameters.{Parameters}
-
-pub parameter_step : (bytes offsets lengths : List ℕ) (values : List Float) → Paired bytes offsets lengths values → (p : Parameters) (i : ℕ) → i < length offsets → parameters_of (assigned p (meaning_of Table.Card (key_at bytes offsets lengths i)) (get_or values i nan)) (rest bytes offsets lengths values (i + 1)) ≡ parameters_of p (rest bytes offsets lengths values i)
-unfolding parameters_of
-parameter_step bytes offsets lengths values h p i l =
-    rw (add-one i) (sym (ap (parameters_of p) (entry_step bytes offsets lengths values h i l)))
+use Rattle.card.specs.Card.{parameters_of, defaults_of, fresh_device, card_rows, card_of, card_list_of}
 
 -- where rows 1 to 4 do not apply, row 6 decides the answer and the list
 module _ (is_pmos : Bool) (bytes offsets lengths : List ℕ) (values : List Float) (list : List ℕ) (h : NoneOf (key_rows Table.Card bytes offsets lengths values (length list))) where

@@ -1,5 +1,5 @@
 -- A model card: its parameters after all keys, and the device that they make.
-use Rattle.std.specs.Prelude.{ℕ, Bool, false, cond, List, [], ◌∷◌, ◌++◌, Float, length}
+use Rattle.std.specs.Prelude.{ℕ, Bool, cond, List, [], ◌∷◌, ◌++◌, Float, length, Option, Some, None, unwrap_or}
 use Rattle.std.specs.Float.{binary64}
 use Rattle.std.specs.Float.Ieee.{of_bits, neg}
 use Rattle.exact.specs.Float64.{◌⊗◌, ◌⊘◌, ◌>f◌, +0, +1}
@@ -11,8 +11,6 @@ use Rattle.device.specs.declared.ChargeHistory.{ChargeHistory}
 use Rattle.device.specs.declared.Charges.{Charges}
 use Rattle.device.specs.declared.Discretisation.TheVariants as Discretisation
 use Rattle.device.specs.declared.Geometry.{Geometry}
-use Rattle.device.specs.declared.Given.{Given}
-use Rattle.device.specs.declared.Given.TheVariants.{Absent, Value}
 use Rattle.device.specs.declared.Histories.{Histories}
 use Rattle.device.specs.declared.Mosfet1.{Mosfet1}
 use Rattle.device.specs.declared.NodeId.TheVariants.{Ground}
@@ -20,15 +18,13 @@ use Rattle.device.specs.declared.OperatingPoint.{OperatingPoint}
 use Rattle.device.specs.declared.Scaled.{Scaled}
 use Rattle.device.specs.declared.Stage.TheVariants as Stage
 use Rattle.device.specs.declared.Terminals.{Terminals}
-use Rattle.keys.specs.Names.{meaning_of}
-use Rattle.keys.specs.Picks.{is_set, pick, pick_given}
+use Rattle.keys.specs.Picks.{is_set, pick, pick_option}
 use Rattle.keys.specs.declared.Key.TheVariants.{Vto, Kp, Uo, Is, Js, Lambda, Gamma, Phi, Rd, Rs, Rsh, Kf, Af, Cgso, Cgdo, Cgbo, Cj, Cjsw, Pb, Mj, Mjsw, Fc, Cox, Tox}
 use Rattle.keys.specs.declared.Meaning.{Meaning}
 use Rattle.keys.specs.declared.Meaning.TheVariants.{Sets, Tnom, Unread, Unknown}
 use Rattle.keys.specs.declared.Table.TheVariants as Table
-use Rattle.entries.specs.Entries.{Entry, entries_of, unknown_count, any_tnom_outside, key_rows, list_after, Keyed}
-use Rattle.card.specs.declared.CardAnswer.{CardAnswer}
-use Rattle.card.specs.declared.CardAnswer.TheVariants.{Done, Refused}
+use Rattle.entries.specs.Entries.{Entry, entries_of, unknown_count, any_tnom_outside, key_rows, list_after, settings_of}
+use Rattle.entries.specs.declared.Keyed.{Keyed}
 use Rattle.card.specs.declared.Parameters.{Parameters}
 
 abbrev pub +0·7 : Float
@@ -87,15 +83,15 @@ abbrev pub assigned : Parameters → Meaning → Float → Parameters
 assigned p m v =
     record {
       vto = pick Vto p.vto m v;
-      kp = pick Kp p.kp m v;
+      kp = pick_option Kp p.kp m v;
       uo = pick Uo p.uo m v;
       is_bulk = pick Is p.is_bulk m v;
       js = pick Js p.js m v;
       lambda = pick Lambda p.lambda m v;
       gamma = pick Gamma p.gamma m v;
       phi = pick Phi p.phi m v;
-      rd = pick Rd p.rd m v;
-      rs = pick Rs p.rs m v;
+      rd = pick_option Rd p.rd m v;
+      rs = pick_option Rs p.rs m v;
       rsh = pick Rsh p.rsh m v;
       kf = pick Kf p.kf m v;
       af = pick Af p.af m v;
@@ -110,15 +106,11 @@ assigned p m v =
       mjsw = pick Mjsw p.mjsw m v;
       fc = pick Fc p.fc m v;
       tnom = pick_tnom p.tnom m v;
-      kp_given = pick_given Kp p.kp_given m;
-      rd_given = pick_given Rd p.rd_given m;
-      rs_given = pick_given Rs p.rs_given m;
     }
 
 -- a later key overrides
 unfoldable pub parameters_of : Parameters → List Entry → Parameters
-parameters_of p [] = p
-parameters_of p (e ∷ es) = parameters_of (assigned p (meaning_of Table.Card e.key) e.value) es
+parameters_of p es = settings_of assigned Table.Card p es
 
 abbrev pub default_vto : Bool → Float
 default_vto is_pmos = cond is_pmos (neg +0·7) +0·7
@@ -128,15 +120,15 @@ abbrev pub defaults_of : Bool → Parameters
 defaults_of is_pmos =
     record {
       vto = default_vto is_pmos;
-      kp = +0;
+      kp = None;
       uo = uo_default;
       is_bulk = is_default;
       js = +0;
       lambda = +0;
       gamma = +0;
       phi = +0·6;
-      rd = +0;
-      rs = +0;
+      rd = None;
+      rs = None;
       rsh = +0;
       kf = +0;
       af = +1;
@@ -151,34 +143,29 @@ defaults_of is_pmos =
       mjsw = +0·33;
       fc = +0·5;
       tnom = tnom_default;
-      kp_given = false;
-      rd_given = false;
-      rs_given = false;
     }
 
 -- KP where it is given; else UO COX, with UO in m²/Vs, where there is a COX; else the fallback
-abbrev pub kp_from : Bool → Float → Float → Float → Float
-kp_from given kp uo cox = cond given kp (cond (cox >f +0) (uo ⊗ +1e-4 ⊗ cox) kp_fallback)
+abbrev pub kp_from : Option Float → Float → Float → Float
+kp_from (Some kp) uo cox = kp
+kp_from None uo cox = cond (cox >f +0) (uo ⊗ +1e-4 ⊗ cox) kp_fallback
 
 -- ---- the device
 
 abbrev pub polarity_of : Bool → Float
 polarity_of is_pmos = cond is_pmos (neg +1) +1
 
-abbrev pub given_if : Bool → Float → Given
-given_if given v = cond given (Value v) Absent
-
 -- the card's part of the device; its nominal temperature becomes kelvin
 abbrev pub card_record_of : Bool → Parameters → Card
 card_record_of is_pmos p =
     record {
       vto = p.vto;
-      kp = kp_from p.kp_given p.kp p.uo p.cox;
+      kp = kp_from p.kp p.uo p.cox;
       lambda = p.lambda;
       gamma = p.gamma;
       phi = p.phi;
-      rd_card = given_if p.rd_given p.rd;
-      rs_card = given_if p.rs_given p.rs;
+      rd_card = p.rd;
+      rs_card = p.rs;
       rsh = p.rsh;
       is_bulk = p.is_bulk;
       js = p.js;
@@ -283,7 +270,7 @@ fresh_charges =
     }
 
 abbrev pub no_history : ChargeHistory
-no_history = record { q_prev = +0; q_prev2 = Absent; i_prev = +0 }
+no_history = record { q_prev = +0; q_prev2 = None; i_prev = +0 }
 
 abbrev pub fresh_histories : Histories
 fresh_histories =
@@ -300,7 +287,7 @@ fresh_device is_pmos p =
     let c = card_record_of is_pmos p in
     record {
       card = c;
-      geometry = fresh_geometry p.rd p.rs;
+      geometry = fresh_geometry (unwrap_or p.rd +0) (unwrap_or p.rs +0);
       scaled = fresh_scaled c.vto c.kp c.phi;
       terminals = fresh_terminals;
       point = fresh_point;
@@ -316,11 +303,6 @@ fresh_device is_pmos p =
 abbrev pub card_rows : List ℕ → List ℕ → List ℕ → List Float → ℕ → List Row
 card_rows bytes offsets lengths values space =
     key_rows Table.Card bytes offsets lengths values space ++ ((6 when any_tnom_outside Table.Card (entries_of bytes offsets lengths values)) ∷ [])
-
--- CardAnswer by its cases
-abbrev pub outcome_of_card : CardAnswer → Outcome Keyed
-outcome_of_card (Done d n) = done (record { device = d; unknown = n })
-outcome_of_card (Refused n) = refused n
 
 -- the device and the count of unknown keys, or the refusal
 unfoldable pub card_of : Bool → List ℕ → List ℕ → List ℕ → List Float → ℕ → Outcome Keyed

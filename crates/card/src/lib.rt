@@ -1,35 +1,36 @@
 // The card call (the Rust's `from_model_params` of mosfet1.rs).
 #![tactic(auto)]
 
-ghost use Rattle.std.specs.Prelude.{◌≡◌, false, length};
-ghost use Rattle.entries.specs.Entries.{entries_of, bad_pairs};
+ghost use Rattle.std.specs.Prelude.{◌≡◌, length};
+ghost use Rattle.device.specs.Refusals.{outcome};
 ghost use Rattle.keys.specs.declared.Meaning.TheVariants.{Sets};
-ghost use Rattle.card.specs.Card.{assigned, parameters_of, default_vto, defaults_of, kp_from, polarity_of, given_if, card_record_of, fresh_geometry, fresh_scaled, fresh_terminals, fresh_point, fresh_charges, fresh_histories, fresh_device, outcome_of_card, card_of, card_list_of};
+ghost use Rattle.card.specs.Card.{assigned, default_vto, defaults_of, kp_from, polarity_of, card_record_of, fresh_geometry, fresh_scaled, fresh_terminals, fresh_point, fresh_charges, fresh_histories, fresh_device, card_of, card_list_of};
 
 use device::{
-    Card, ChargeHistory, Charges, Discretisation, Geometry, Given, Histories, Mosfet1, NodeId,
-    OperatingPoint, Scaled, Stage, Terminals,
+    Card, ChargeHistory, Charges, Discretisation, Geometry, Histories, Mosfet1, NodeId,
+    OperatingPoint, Refusal, Scaled, Stage, Terminals,
 };
-use entries::KeysAnswer;
+use entries::{Keyed, Settings};
+use key_pairs::LentKeys;
 use keys::{Key, Meaning, Table};
 use temperature::Celsius;
 
 // The permittivity of silicon dioxide, F/m.
 const EPS_OX: f64 = 3.9 * 8.854187817e-12;
 
-// What the keys of a card say: values, and which of KP, RD and RS were given.
+// What the keys of a card say. KP, RD and RS may be left out; the others have a default.
 #[derive(Clone, Copy)]
 pub struct Parameters {
     pub vto: f64,
-    pub kp: f64,
+    pub kp: Option<f64>,
     pub uo: f64,
     pub is_bulk: f64,
     pub js: f64,
     pub lambda: f64,
     pub gamma: f64,
     pub phi: f64,
-    pub rd: f64,
-    pub rs: f64,
+    pub rd: Option<f64>,
+    pub rs: Option<f64>,
     pub rsh: f64,
     pub kf: f64,
     pub af: f64,
@@ -44,16 +45,6 @@ pub struct Parameters {
     pub mjsw: f64,
     pub fc: f64,
     pub tnom: Celsius,
-    pub kp_given: bool,
-    pub rd_given: bool,
-    pub rs_given: bool,
-}
-
-// The device and the count of unknown keys, or the number of the refusal.
-#[derive(Clone, Copy)]
-pub enum CardAnswer {
-    Done(Mosfet1, usize),
-    Refused(u8),
 }
 
 fn default_vto(is_pmos: bool) -> f64
@@ -66,19 +57,17 @@ fn default_vto(is_pmos: bool) -> f64
 fn defaults(is_pmos: bool) -> Parameters
     ensures { result ≡ defaults_of is_pmos }
 {
-    let vto = default_vto(is_pmos);
-    let tnom = temperature::tnom_default();
     Parameters {
-        vto,
-        kp: 0.0,
+        vto: default_vto(is_pmos),
+        kp: None,
         uo: 600.0,
         is_bulk: 1e-14,
         js: 0.0,
         lambda: 0.0,
         gamma: 0.0,
         phi: 0.6,
-        rd: 0.0,
-        rs: 0.0,
+        rd: None,
+        rs: None,
         rsh: 0.0,
         kf: 0.0,
         af: 1.0,
@@ -92,184 +81,65 @@ fn defaults(is_pmos: bool) -> Parameters
         mj: 0.5,
         mjsw: 0.33,
         fc: 0.5,
-        tnom,
-        kp_given: false,
-        rd_given: false,
-        rs_given: false,
+        tnom: temperature::tnom_default(),
     }
 }
 
-// The parameters after a key that sets one of them; the geometry's keys set none.
-fn set_parameter(p: Parameters, key: Key, v: f64) -> Parameters
-    ensures { result ≡ assigned p (Sets key) v }
-{
-    let mut q = p;
-    match key {
-        Key::Vto => {
-            q.vto = v;
-            q
+impl Parameters {
+    // Sets what a key sets; the geometry's keys set none.
+    fn set(&mut self, key: Key, v: f64)
+        ensures { self.new ≡ assigned self.old (Sets key) v }
+    {
+        match key {
+            Key::Vto => self.vto = v,
+            Key::Kp => self.kp = Some(v),
+            Key::Uo => self.uo = v,
+            Key::Is => self.is_bulk = v,
+            Key::Js => self.js = v,
+            Key::Lambda => self.lambda = v,
+            Key::Gamma => self.gamma = v,
+            Key::Phi => self.phi = v,
+            Key::Rd => self.rd = Some(v),
+            Key::Rs => self.rs = Some(v),
+            Key::Rsh => self.rsh = v,
+            Key::Kf => self.kf = v,
+            Key::Af => self.af = v,
+            Key::Cgso => self.cgso = v,
+            Key::Cgdo => self.cgdo = v,
+            Key::Cgbo => self.cgbo = v,
+            Key::Cox => self.cox = v,
+            Key::Tox => self.cox = EPS_OX / v,
+            Key::Cj => self.cj = v,
+            Key::Cjsw => self.cjsw = v,
+            Key::Pb => self.pb = v,
+            Key::Mj => self.mj = v,
+            Key::Mjsw => self.mjsw = v,
+            Key::Fc => self.fc = v,
+            _ => {}
         }
-        Key::Kp => {
-            q.kp = v;
-            q.kp_given = true;
-            q
-        }
-        Key::Uo => {
-            q.uo = v;
-            q
-        }
-        Key::Is => {
-            q.is_bulk = v;
-            q
-        }
-        Key::Js => {
-            q.js = v;
-            q
-        }
-        Key::Lambda => {
-            q.lambda = v;
-            q
-        }
-        Key::Gamma => {
-            q.gamma = v;
-            q
-        }
-        Key::Phi => {
-            q.phi = v;
-            q
-        }
-        Key::Rd => {
-            q.rd = v;
-            q.rd_given = true;
-            q
-        }
-        Key::Rs => {
-            q.rs = v;
-            q.rs_given = true;
-            q
-        }
-        Key::Rsh => {
-            q.rsh = v;
-            q
-        }
-        Key::Kf => {
-            q.kf = v;
-            q
-        }
-        Key::Af => {
-            q.af = v;
-            q
-        }
-        Key::Cgso => {
-            q.cgso = v;
-            q
-        }
-        Key::Cgdo => {
-            q.cgdo = v;
-            q
-        }
-        Key::Cgbo => {
-            q.cgbo = v;
-            q
-        }
-        Key::Cox => {
-            q.cox = v;
-            q
-        }
-        Key::Tox => {
-            q.cox = EPS_OX / v;
-            q
-        }
-        Key::Cj => {
-            q.cj = v;
-            q
-        }
-        Key::Cjsw => {
-            q.cjsw = v;
-            q
-        }
-        Key::Pb => {
-            q.pb = v;
-            q
-        }
-        Key::Mj => {
-            q.mj = v;
-            q
-        }
-        Key::Mjsw => {
-            q.mjsw = v;
-            q
-        }
-        Key::Fc => {
-            q.fc = v;
-            q
-        }
-        Key::W => q,
-        Key::L => q,
-        Key::Nrd => q,
-        Key::Nrs => q,
-        Key::As => q,
-        Key::Ad => q,
-        Key::Ps => q,
-        Key::Pd => q,
     }
 }
 
-// The parameters after one key more.
-fn assign(p: Parameters, m: Meaning, v: f64) -> Parameters
-    ensures { result ≡ assigned p m v }
-{
-    match m {
-        Meaning::Sets(key) => set_parameter(p, key, v),
-        Meaning::Tnom => {
-            let mut q = p;
-            let tnom = Celsius(v);
-            q.tnom = tnom;
-            q
-        }
-        Meaning::Unread => p,
-        Meaning::Unknown => p,
-    }
-}
+impl Settings for Parameters {
+    ghost with_key = { assigned };
 
-// The parameters after all keys.
-fn read_parameters(
-    start: Parameters,
-    bytes: &[u8],
-    offsets: &[usize],
-    lengths: &[usize],
-    values: &[f64],
-) -> Parameters
-    requires { bad_pairs bytes.now offsets.now lengths.now values.now ≡ false }
-    ensures { result ≡ parameters_of start (entries_of bytes.now offsets.now lengths.now values.now) }
-{
-    let mut p = start;
-    let mut i = 0;
-    while i < offsets.len() {
-        let m = entries::meaning_at(Table::Card, bytes, offsets, lengths, i);
-        p = assign(p, m, values[i]);
-        i += 1;
+    fn assign(&mut self, m: Meaning, v: f64) {
+        match m {
+            Meaning::Sets(key) => self.set(key, v),
+            Meaning::Tnom => self.tnom = Celsius(v),
+            Meaning::Unread | Meaning::Unknown => {}
+        }
     }
-    p
 }
 
 // KP where it is given, else from the mobility and the oxide, else the fallback.
-fn kp_of(given: bool, kp: f64, uo: f64, cox: f64) -> f64
-    ensures { result ≡ kp_from given kp uo cox }
+fn kp_of(kp: Option<f64>, uo: f64, cox: f64) -> f64
+    ensures { result ≡ kp_from kp uo cox }
 {
-    if given {
-        return kp;
-    }
-    if cox > 0.0 { uo * 1e-4 * cox } else { 2e-5 }
-}
-
-fn given_if(given: bool, v: f64) -> Given
-    ensures { result ≡ given_if given v }
-{
-    if given {
-        Given::Value(v)
-    } else {
-        Given::Absent
+    match kp {
+        Some(kp) => kp,
+        None if cox > 0.0 => uo * 1e-4 * cox,
+        None => 2e-5,
     }
 }
 
@@ -282,24 +152,20 @@ fn polarity(is_pmos: bool) -> f64
 fn card_record(is_pmos: bool, p: Parameters) -> Card
     ensures { result ≡ card_record_of is_pmos p }
 {
-    let celsius = p.tnom;
-    let tnom = temperature::to_kelvin(celsius);
-    let rd_card = given_if(p.rd_given, p.rd);
-    let rs_card = given_if(p.rs_given, p.rs);
     Card {
         vto: p.vto,
-        kp: kp_of(p.kp_given, p.kp, p.uo, p.cox),
+        kp: kp_of(p.kp, p.uo, p.cox),
         lambda: p.lambda,
         gamma: p.gamma,
         phi: p.phi,
-        rd_card,
-        rs_card,
+        rd_card: p.rd,
+        rs_card: p.rs,
         rsh: p.rsh,
         is_bulk: p.is_bulk,
         js: p.js,
         kf: p.kf,
         af: p.af,
-        tnom,
+        tnom: temperature::to_kelvin(p.tnom),
         polarity: polarity(is_pmos),
         cgso: p.cgso,
         cgdo: p.cgdo,
@@ -313,6 +179,8 @@ fn card_record(is_pmos: bool, p: Parameters) -> Card
         fc: p.fc,
     }
 }
+
+// What stands before the first calls is no derived `Default`: some of the values are not 0.
 
 // Before a geometry call: default sizes, nothing derived.
 fn fresh_geometry(rd: f64, rs: f64) -> Geometry
@@ -361,14 +229,13 @@ fn fresh_scaled(vto: f64, kp: f64, phi: f64) -> Scaled
 fn fresh_terminals() -> Terminals
     ensures { result ≡ fresh_terminals }
 {
-    let ground = NodeId::Ground;
     Terminals {
-        drain_ext: ground,
-        source_ext: ground,
-        drain: ground,
-        gate: ground,
-        source: ground,
-        bulk: ground,
+        drain_ext: NodeId::Ground,
+        source_ext: NodeId::Ground,
+        drain: NodeId::Ground,
+        gate: NodeId::Ground,
+        source: NodeId::Ground,
+        bulk: NodeId::Ground,
     }
 }
 
@@ -412,10 +279,9 @@ fn fresh_charges() -> Charges
 fn fresh_histories() -> Histories
     ensures { result ≡ fresh_histories }
 {
-    let before = Given::Absent;
     let none = ChargeHistory {
         q_prev: 0.0,
-        q_prev2: before,
+        q_prev2: None,
         i_prev: 0.0,
     };
     Histories {
@@ -432,49 +298,37 @@ fn fresh_device(is_pmos: bool, p: Parameters) -> Mosfet1
     ensures { result ≡ fresh_device is_pmos p }
 {
     let card = card_record(is_pmos, p);
-    let geometry = fresh_geometry(p.rd, p.rs);
-    let scaled = fresh_scaled(card.vto, card.kp, card.phi);
-    let terminals = fresh_terminals();
-    let point = fresh_point();
-    let charges = fresh_charges();
-    let histories = fresh_histories();
-    let disc = Discretisation::None;
-    let stage = Stage::Card;
     Mosfet1 {
         card,
-        geometry,
-        scaled,
-        terminals,
-        point,
-        charges,
-        histories,
-        disc,
-        stage,
+        geometry: fresh_geometry(p.rd.unwrap_or(0.0), p.rs.unwrap_or(0.0)),
+        scaled: fresh_scaled(card.vto, card.kp, card.phi),
+        terminals: fresh_terminals(),
+        point: fresh_point(),
+        charges: fresh_charges(),
+        histories: fresh_histories(),
+        disc: Discretisation::None,
+        stage: Stage::Card,
     }
 }
 
 // Reads a card: `unknown` is lent for the places of the keys that no model knows.
 pub fn from_model_params(
     is_pmos: bool,
-    bytes: &[u8],
-    offsets: &[usize],
-    lengths: &[usize],
-    values: &[f64],
+    lent: LentKeys<'_>,
     unknown: &mut [usize],
-) -> CardAnswer
-    ensures { (outcome_of_card result ≡ card_of is_pmos bytes.now offsets.now lengths.now values.now (length unknown.old))
-        × (unknown.new ≡ card_list_of bytes.now offsets.now lengths.now values.now unknown.old) }
+) -> Result<Keyed, Refusal>
+    ensures { (outcome result ≡ card_of is_pmos lent.entry.bytes.now lent.entry.offsets.now lent.entry.lengths.now lent.entry.values.now (length unknown.old))
+        × (unknown.new ≡ card_list_of lent.entry.bytes.now lent.entry.offsets.now lent.entry.lengths.now lent.entry.values.now unknown.old) }
 {
-    let tested = entries::test_keys(Table::Card, bytes, offsets, lengths, values, unknown.len());
-    match tested {
-        KeysAnswer::Refused(row) => CardAnswer::Refused(row),
-        KeysAnswer::Passed(count, tnom_outside) => {
-            if tnom_outside {
-                return CardAnswer::Refused(6);
-            }
-            let p = read_parameters(defaults(is_pmos), bytes, offsets, lengths, values);
-            entries::list_unknown(Table::Card, bytes, offsets, lengths, values, unknown);
-            CardAnswer::Done(fresh_device(is_pmos, p), count)
-        }
+    let keys = lent.paired()?;
+    let read = entries::test_keys(Table::Card, keys, unknown.len())?;
+    if read.outside {
+        return Err(Refusal::Temperature);
     }
+    entries::list_unknown(Table::Card, keys, unknown);
+    let parameters = entries::read(Table::Card, defaults(is_pmos), keys);
+    Ok(Keyed {
+        device: fresh_device(is_pmos, parameters),
+        unknown: read.unknown,
+    })
 }

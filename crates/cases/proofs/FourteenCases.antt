@@ -1,4 +1,5 @@
 -- The fourteen cases hold: each is computed, from four values of the elementary functions.
+use Rattle.std.specs.Prelude.{Some, None}
 use mathlib.Core.Path.{◌≡◌, refl, sym, ap, subst, ◌∙◌}
 use mathlib.Core.Bool.{true, cond}
 use lib.Ieee.{Float, binary64, round, neg, add, sub, mul, div, lt, le, eq, of_bits}
@@ -6,7 +7,6 @@ use Rattle.exact.specs.Float64.{◌⊕◌, ◌⊖◌, ◌⊗◌, ◌⊘◌, ◌>
 use Rattle.elementary.specs.Functions.{sqrt_of, exp_of}
 use Rattle.elementary.proofs.Computing.{functions}
 use Rattle.device.specs.declared.Mosfet1.{Mosfet1}
-use Rattle.device.specs.declared.Given.TheVariants.{Absent, Value}
 use Rattle.device.specs.declared.Discretisation.TheVariants.{Euler, Trapezoid, Gear}
 use Rattle.float.specs.Constants.{two, tenth}
 use Rattle.threshold.specs.Limiter.{limited_vds_of}
@@ -134,15 +134,15 @@ limited11 d vgs vbs gmin p q =
     ∙ ap (λ (x : Float). limited_vds_of (+1 ⊗ (neg +1 ⊖ +0)) x) q
     ∙ limited_tenth
 
-charge12 : (alpha : Float) → (charge_current_of (Euler (num 1 2)) alpha (num 3 1) (past +1 Absent +0)).i ≡ num 4 1
+charge12 : (alpha : Float) → (charge_current_of (Euler (num 1 2)) alpha (num 3 1) (past +1 None +0)).i ≡ num 4 1
 unfolding charge_current_of euler_of trapezoid_of gear_of gear_at_of gear_or_euler_of round neg add sub mul div of_bits
 charge12 alpha = refl
 
-charge13 : (alpha : Float) → (charge_current_of (Trapezoid (num 1 2)) alpha (num 3 1) (past +1 Absent +1)).i ≡ num 7 1
+charge13 : (alpha : Float) → (charge_current_of (Trapezoid (num 1 2)) alpha (num 3 1) (past +1 None +1)).i ≡ num 7 1
 unfolding charge_current_of euler_of trapezoid_of gear_of gear_at_of gear_or_euler_of round neg add sub mul div of_bits
 charge13 alpha = refl
 
-charge14 : (alpha : Float) → (charge_current_of (Gear +1 +1) alpha (num 3 1) (past +1 (Value (num 2 1)) +0)).i ≡ num 7 2
+charge14 : (alpha : Float) → (charge_current_of (Gear +1 +1) alpha (num 3 1) (past +1 (Some (num 2 1)) +0)).i ≡ num 7 2
 unfolding charge_current_of euler_of trapezoid_of gear_of gear_at_of gear_or_euler_of round neg add sub mul div of_bits
 charge14 alpha = refl
 

@@ -1,12 +1,10 @@
 -- The fourteen cases of document 01, in the Level-1 definition's own terms.
-use Rattle.std.specs.Prelude.{ℕ, ◌≡◌, true, false, Float}
+use Rattle.std.specs.Prelude.{ℕ, ◌≡◌, true, false, Float, Option, Some, None}
 use Rattle.std.specs.Float.{binary64}
 use Rattle.std.specs.Float.Ieee.{round, neg, of_bits}
 use Rattle.exact.specs.Float64.{◌⊖◌, +0, +1}
 use Rattle.device.specs.declared.Mosfet1.{Mosfet1}
 use Rattle.device.specs.declared.ChargeHistory.{ChargeHistory}
-use Rattle.device.specs.declared.Given.{Given}
-use Rattle.device.specs.declared.Given.TheVariants.{Absent, Value}
 use Rattle.device.specs.declared.Discretisation.TheVariants.{Euler, Trapezoid, Gear}
 use Rattle.float.specs.Constants.{tenth}
 use Rattle.channel.specs.Channel.{region_of}
@@ -67,7 +65,7 @@ pub record ShowsBody (a : Answer) (vth ids gm gds gmbs : Float) : Type 0 where
   pub shows : Shows a ids gm gds
   pub is_gmbs : a.gmbs ≡ gmbs
 
-abbrev pub past : Float → Given → Float → ChargeHistory
+abbrev pub past : Float → Option Float → Float → ChargeHistory
 past q q2 i = record { q_prev = q; q_prev2 = q2; i_prev = i }
 
 pub record FourteenCases : Type 0 where
@@ -83,6 +81,6 @@ pub record FourteenCases : Type 0 where
   pub case10 : bulk_junction_of +1 +0 (num 1 4) (num 1 2) ≡ record { i = +0; g = num 9 2 }
   pub case11 : (d : Mosfet1) (vgs vbs gmin : Float) → d.card.polarity ≡ +1 → d.point.vds_eff_prev ≡ +1
       → (evaluated_answer_of d (record { vd = neg +1; vg = vgs; vs = +0; vb = vbs }) gmin true).vds ≡ tenth
-  pub case12 : (alpha : Float) → (charge_current_of (Euler (num 1 2)) alpha (num 3 1) (past +1 Absent +0)).i ≡ num 4 1
-  pub case13 : (alpha : Float) → (charge_current_of (Trapezoid (num 1 2)) alpha (num 3 1) (past +1 Absent +1)).i ≡ num 7 1
-  pub case14 : (alpha : Float) → (charge_current_of (Gear +1 +1) alpha (num 3 1) (past +1 (Value (num 2 1)) +0)).i ≡ num 7 2
+  pub case12 : (alpha : Float) → (charge_current_of (Euler (num 1 2)) alpha (num 3 1) (past +1 None +0)).i ≡ num 4 1
+  pub case13 : (alpha : Float) → (charge_current_of (Trapezoid (num 1 2)) alpha (num 3 1) (past +1 None +1)).i ≡ num 7 1
+  pub case14 : (alpha : Float) → (charge_current_of (Gear +1 +1) alpha (num 3 1) (past +1 (Some (num 2 1)) +0)).i ≡ num 7 2

@@ -11,7 +11,7 @@ use lib.Seq.{slice}
 use lib.Dec.{leb, ltb}
 use borrow.Author.Tests.{le-leb, eq-eqb, ltb-true, ltb-false}
 use Rattle.pattern.specs.Pattern.{rising_after, rising, pairs_fit, well_formed, place_in, cell_of}
-use Rattle.pattern.specs.declared.Found.TheVariants.{At}
+use Rattle.std.specs.Prelude.{Some}
 use Rattle.pattern.proofs.Rows.{rise_start, rise_more, rise_end, rise_none}
 use Rattle.pattern.proofs.Places.{places_found}
 use Rattle.cells.specs.Cells.{row_width, cell_number}
@@ -85,7 +85,7 @@ module _ (ks : List ℕ) (rises : rising ks ≡ true) where
   number_column : (r c : ℕ) → c < row_width → cell_number r c % row_width ≡ c
   number_column r c h = omega arith
 
-  pub found : (n r c : ℕ) → r < n → c < row_width → (s : Stands (cell_number r c) ks) → cell_of (columns_in ks) (running_offsets 0 (lengths_in ks 0 n)) (lengths_in ks 0 n) r c ≡ At s.place
+  pub found : (n r c : ℕ) → r < n → c < row_width → (s : Stands (cell_number r c) ks) → cell_of (columns_in ks) (running_offsets 0 (lengths_in ks 0 n)) (lengths_in ks 0 n) r c ≡ Some s.place
   unfolding cell_of
   found n r c h k s =
       let row : get_or ks s.place 0 / row_width ≡ r = ap (λ (x : ℕ). x / row_width) s.is ∙ number_row r c k in
@@ -93,5 +93,5 @@ module _ (ks : List ℕ) (rises : rising ks ≡ true) where
       let from : count_before r ks ≤ s.place = past r ks rises s.place (omega arith) in
       let to : s.place < count_before (suc r) ks = is_before (suc r) ks rises s.place s.inside (omega arith) in
       rw (offset_at ks n r h, length_at ks 0 n r h, zero-add r, ← row_more r ks)
-      (subst (λ (x : ℕ). place_in (count_before r ks) (slice (count_before r ks) (count_before (suc r) ks) (columns_in ks)) x ≡ At s.place) column
+      (subst (λ (x : ℕ). place_in (count_before r ks) (slice (count_before r ks) (count_before (suc r) ks) (columns_in ks)) x ≡ Some s.place) column
       (places_found (columns_in ks) (count_before r ks) (count_before (suc r) ks) (room r) (row_rises r) s.place from to))

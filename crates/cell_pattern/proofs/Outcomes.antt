@@ -7,7 +7,8 @@ use Prim.Native.Nat.{ℕ, ◌≤◌, ◌<◌}
 use lib.ListN.{length, take, drop, replicate, length-append}
 use lib.Seq.{take-append_seam, take_at}
 use lib.Dec.{leb}
-use borrow.Author.Tests.{le-leb, lt-leb, leb-true}
+use Rattle.std.proofs.Common.{max, cond, ltb}
+use borrow.Author.Tests.{leb-true, ltb-true, ltb-false}
 use Rattle.pattern.proofs.Rows.{and_left, and_right}
 use Rattle.device.specs.Nodes.{node_beyond}
 use Rattle.device.specs.declared.NodeId.{NodeId}
@@ -15,26 +16,19 @@ use Rattle.device.specs.declared.NodeId.TheVariants.{At}
 use Rattle.device.specs.declared.Terminals.{Terminals}
 use Rattle.cells.specs.Cells.{row_width, cells_of, Listed}
 use Rattle.cells.proofs.Indices.{below}
-use Rattle.cell_pattern.specs.CellPattern.{have_room, row_count, pattern_in, pattern_of, columns_in, lengths_in, running_offsets, over, LaidOut}
+use Rattle.cell_pattern.specs.CellPattern.{have_room, larger_of, row_count, pattern_in, pattern_of, columns_in, lengths_in, running_offsets, over, LaidOut}
 use Rattle.cell_pattern.proofs.Counts.{length_columns, length_offsets, length_lengths}
 
+larger_by : (x y : ℕ) (b : Bool) → ltb x y ≡ b → max x y ≡ cond b y x
+larger_by x y true e = omega (arith, ltb-true x y e)
+larger_by x y false e = omega (arith, ltb-false x y e)
+
+-- the larger of two numbers by one test
+pub larger_is : (x y m : ℕ) → m ≡ max x y → m ≡ larger_of x y
+unfolding larger_of
+larger_is x y m e = e ∙ larger_by x y (ltb x y) refl
+
 module _ (cells rows columns offsets lengths : ℕ) where
-  pub short_columns : columns < cells → have_room cells rows columns offsets lengths ≡ false
-  unfolding have_room
-  short_columns h = simp (lt-leb cells columns h)
-
-  pub short_offsets : offsets < rows → have_room cells rows columns offsets lengths ≡ false
-  unfolding have_room
-  short_offsets h = simp (lt-leb rows offsets h) (and_no (leb cells columns) (leb rows lengths))
-    where
-      and_no : (a b : Bool) → (a && false && b) ≡ false
-      and_no true b = refl
-      and_no false b = refl
-
-  pub by_lengths : cells ≤ columns → rows ≤ offsets → have_room cells rows columns offsets lengths ≡ leb rows lengths
-  unfolding have_room
-  by_lengths h k = simp (le-leb cells columns h, le-leb rows offsets k)
-
   pub record Room : Type 0 where
     pub for_columns : cells ≤ columns
     pub for_offsets : rows ≤ offsets

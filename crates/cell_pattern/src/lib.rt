@@ -3,13 +3,13 @@
 
 ghost use Rattle.std.specs.Prelude.{◌≡◌, true, false, suc, ◌+◌, ◌≤◌, ◌<◌, ◌/◌, ◌%◌, length, take};
 ghost use Rattle.pattern.specs.Pattern.{rising};
-ghost use Rattle.device.specs.Nodes.{node_beyond, any_node_beyond};
+ghost use Rattle.device.specs.Nodes.{node_beyond};
 ghost use Rattle.cells.specs.Cells.{row_width, cells_of};
-ghost use Rattle.cell_pattern.specs.CellPattern.{columns_in, lengths_in, running_offsets, rows_to, larger_of, row_count, over, pattern_in, pattern_of, have_room, LaidOut};
+ghost use Rattle.cell_pattern.specs.CellPattern.{columns_in, lengths_in, running_offsets, rows_to, row_count, over, pattern_in, pattern_of, have_room, LaidOut};
 ghost use Rattle.cell_pattern.specs.Steps.{count_before};
 
-use cells::CellList;
-use device::{NodeId, Terminals};
+use cells::{BoundTerminals, CellList};
+use device::NodeId;
 
 // The lengths that the pattern needs: of the columns, and of the offsets and the lengths.
 #[derive(Clone, Copy)]
@@ -36,10 +36,8 @@ fn write_columns(cells: &[u64], columns: &mut [u32])
     requires { length cells.now ≤ length columns.old }
     ensures { columns.new ≡ over (columns_in cells.now) columns.old }
 {
-    let mut i: usize = 0;
-    while i < cells.len() {
+    for i in 0..cells.len() {
         columns[i] = column_of(cells[i]);
-        i += 1;
     }
 }
 
@@ -48,14 +46,12 @@ fn row_end(cells: &[u64], at: usize, row: usize) -> usize
     requires { (rising cells.now ≡ true) × (at ≡ count_before row cells.now) }
     ensures { result ≡ count_before (suc row) cells.now }
 {
-    let mut i = at;
-    while i < cells.len() {
+    for i in at..cells.len() {
         if row < row_of(cells[i]) {
             return i;
         }
-        i += 1;
     }
-    i
+    cells.len()
 }
 
 // The offsets and lengths of so many rows from 0 on, in one pass over the rising cells.
@@ -64,27 +60,20 @@ fn write_rows(cells: &[u64], rows: usize, offsets: &mut [usize], lengths: &mut [
     ensures { (offsets.new ≡ over (running_offsets 0 (lengths_in cells.now 0 rows)) offsets.old) × (lengths.new ≡ over (lengths_in cells.now 0 rows) lengths.old) }
 {
     let mut at: usize = 0;
-    let mut row: usize = 0;
-    while row < rows {
+    for row in 0..rows {
         let end = row_end(cells, at, row);
         offsets[row] = at;
         lengths[row] = end - at;
         at = end;
-        row += 1;
     }
 }
 
 // Whether each of the three slices is long enough for so many cells and rows.
+#[tactic(auto, unfolding(crate::specs::CellPattern::have_room))]
 fn have_room(cells: usize, rows: usize, columns: usize, offsets: usize, lengths: usize) -> bool
     ensures { result ≡ have_room cells rows columns offsets lengths }
 {
-    if columns < cells {
-        return false;
-    }
-    if offsets < rows {
-        return false;
-    }
-    rows <= lengths
+    cells <= columns && rows <= offsets && rows <= lengths
 }
 
 // The pattern of some cells in front of what the slices held; nothing is written where one is short.
@@ -121,33 +110,17 @@ fn rows_to(node: NodeId) -> usize
     }
 }
 
-fn larger(x: usize, y: usize) -> usize
-    ensures { result ≡ larger_of x y }
-{
-    if x < y {
-        return y;
-    }
-    x
-}
-
 // One more than the largest node, 0 where all nodes are ground.
-fn row_count(t: Terminals) -> usize
-    requires { any_node_beyond row_width t ≡ false }
-    ensures { result ≡ row_count t }
+fn row_count(t: BoundTerminals) -> usize
+    ensures { result ≡ row_count t.terminals }
 {
-    let drain_ext = t.drain_ext;
-    let source_ext = t.source_ext;
-    let drain = t.drain;
-    let gate = t.gate;
-    let source = t.source;
-    let bulk = t.bulk;
-    let a = rows_to(drain_ext);
-    let b = rows_to(source_ext);
-    let c = rows_to(drain);
-    let d = rows_to(gate);
-    let e = rows_to(source);
-    let f = rows_to(bulk);
-    larger(larger(larger(larger(larger(a, b), c), d), e), f)
+    let nodes = t.terminals;
+    rows_to(nodes.drain_ext)
+        .max(rows_to(nodes.source_ext))
+        .max(rows_to(nodes.drain))
+        .max(rows_to(nodes.gate))
+        .max(rows_to(nodes.source))
+        .max(rows_to(nodes.bulk))
 }
 
 // The cells of a list, laid out.
@@ -162,20 +135,17 @@ fn write_list(
     ensures { LaidOut (pattern_in (take list.count list.numbers) rows) columns.old offsets.old lengths.old columns.new offsets.new lengths.new }
 {
     let numbers = list.numbers;
-    let from: usize = 0;
-    let to = list.count;
-    write(&numbers[from..to], rows, columns, offsets, lengths);
+    write(&numbers[..list.count], rows, columns, offsets, lengths);
 }
 
 // The pattern of a device's cells in front of what the slices held; nothing is written where one is short. The lengths that it needs.
 pub fn lay_out(
-    t: Terminals,
+    t: BoundTerminals,
     columns: &mut [u32],
     offsets: &mut [usize],
     lengths: &mut [usize],
 ) -> Needed
-    requires { any_node_beyond row_width t ≡ false }
-    ensures { (result.columns ≡ length (cells_of t)) × ((result.rows ≡ row_count t) × LaidOut (pattern_of t) columns.old offsets.old lengths.old columns.new offsets.new lengths.new) }
+    ensures { (result.columns ≡ length (cells_of t.terminals)) × ((result.rows ≡ row_count t.terminals) × LaidOut (pattern_of t.terminals) columns.old offsets.old lengths.old columns.new offsets.new lengths.new) }
 {
     let list = cells::cells(t);
     let rows = row_count(t);

@@ -7,9 +7,27 @@ use native.Mathlib.Numerals.{add-one}
 use native.Mathlib.Omega.{arith}
 use lib.ListN.{length, get_or, take, drop, set, replicate, take-append-drop, drop_of_length-le}
 use lib.Seq.{slice, slice_empty, slice-cons, drop-cons, take-suc-set, take-set-lt, drop-set-lt, append_snoc, take-take, drop-drop, length-take-le}
-use borrow.Author.Tests.{eq-eqb, ne_eqb, lt-ltb, le-ltb}
+use Rattle.std.proofs.Common.{min, max, cond, ltb}
+use borrow.Author.Tests.{eq-eqb, ne_eqb, lt-ltb, le-ltb, ltb-true, ltb-false}
 use Rattle.cells.specs.Cells.{row_width, cell_number, Listed}
 use Rattle.cells.specs.Steps.{carry_of, lower_of, higher_of, carry_cell_of, carry_cells_of}
+
+-- the lower and the higher of two numbers by one test
+lower_by : (x y : ℕ) (b : Bool) → ltb x y ≡ b → min x y ≡ cond b x y
+lower_by x y true e = omega (arith, ltb-true x y e)
+lower_by x y false e = omega (arith, ltb-false x y e)
+
+higher_by : (x y : ℕ) (b : Bool) → ltb x y ≡ b → max x y ≡ cond b y x
+higher_by x y true e = omega (arith, ltb-true x y e)
+higher_by x y false e = omega (arith, ltb-false x y e)
+
+pub lower_is : (x y m : ℕ) → m ≡ min x y → m ≡ lower_of x y
+unfolding lower_of
+lower_is x y m e = e ∙ lower_by x y (ltb x y) refl
+
+pub higher_is : (x y m : ℕ) → m ≡ max x y → m ≡ higher_of x y
+unfolding higher_of
+higher_is x y m e = e ∙ higher_by x y (ltb x y) refl
 
 abbrev pub state : List ℕ → ℕ → ℕ → ℕ → List ℕ
 state numbers count carried i = take i numbers ++ carry_of carried (slice i count numbers)

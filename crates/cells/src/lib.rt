@@ -4,34 +4,23 @@
 ghost use Rattle.std.specs.Prelude.{◌≡◌, false, [], ◌<◌, take};
 ghost use Rattle.device.specs.Nodes.{any_node_beyond};
 ghost use Rattle.cells.specs.Cells.{row_width, positions_of, cells_of, Listed};
-ghost use Rattle.cells.specs.Steps.{lower_of, higher_of, carry_of, carry_cell_of, carry_cells_of, row_indices, column_indices, Grown};
+ghost use Rattle.cells.specs.Steps.{carry_of, carry_cell_of, carry_cells_of, row_indices, column_indices, Grown};
 
 use device::Terminals;
+use places::Nodes;
+
+// Terminals whose nodes' indices are all below 2^32, as row 8 lets pass: each cell is then a number.
+#[derive(Clone, Copy)]
+pub struct BoundTerminals {
+    pub terminals: Terminals,
+    pub ghost below: { any_node_beyond row_width terminals ≡ false },
+}
 
 // Cells, each as row · 2^32 + column, in rising order: the first `count` numbers, and ones behind them.
 #[derive(Clone, Copy)]
 pub struct CellList {
     pub numbers: [u64; 44],
     pub count: usize,
-}
-
-// Of two numbers the one that an insertion stores, and below it the one that it carries on.
-fn lower(x: u64, y: u64) -> u64
-    ensures { result ≡ lower_of x y }
-{
-    if x < y {
-        return x;
-    }
-    y
-}
-
-fn higher(x: u64, y: u64) -> u64
-    ensures { result ≡ higher_of x y }
-{
-    if x < y {
-        return y;
-    }
-    x
 }
 
 // A number put among rising ones, unless it is there.
@@ -42,15 +31,13 @@ fn insert(list: CellList, number: u64) -> CellList
     let count = list.count;
     let mut numbers = list.numbers;
     let mut carried = number;
-    let mut i: usize = 0;
-    while i < count {
+    for i in 0..count {
         let here = numbers[i];
         if here == carried {
             return CellList { numbers, count };
         }
-        numbers[i] = lower(carried, here);
-        carried = higher(carried, here);
-        i += 1;
+        numbers[i] = carried.min(here);
+        carried = carried.max(here);
     }
     numbers[count] = carried;
     CellList {
@@ -60,14 +47,12 @@ fn insert(list: CellList, number: u64) -> CellList
 }
 
 // A cell by the indices of its row and column; ground's is not below 2^32.
+#[tactic(auto, using(crate::proofs::Insertion::skip_row, crate::proofs::Insertion::skip_column, crate::proofs::Insertion::put_cell))]
 fn insert_cell(list: CellList, row: usize, column: usize) -> CellList
     requires { list.count < 44 }
     ensures { Grown (carry_cell_of row column (take list.count list.numbers)) list.numbers list.count result.numbers result.count }
 {
-    if 4294967296 <= row {
-        return list;
-    }
-    if 4294967296 <= column {
+    if 4294967296 <= row || 4294967296 <= column {
         return list;
     }
     insert(list, row as u64 * 4294967296 + column as u64)
@@ -81,10 +66,8 @@ fn insert_cells(rows: [usize; 44], columns: [usize; 44]) -> CellList
         numbers: [1; 44],
         count: 0,
     };
-    let mut i: usize = 0;
-    while i < 44 {
+    for i in 0..44 {
         list = insert_cell(list, rows[i], columns[i]);
-        i += 1;
     }
     list
 }
@@ -93,13 +76,14 @@ fn insert_cells(rows: [usize; 44], columns: [usize; 44]) -> CellList
 fn rows(t: Terminals) -> [usize; 44]
     ensures { result ≡ row_indices (positions_of t) }
 {
-    let n = places::indices(t);
-    let d = n.drain;
-    let g = n.gate;
-    let s = n.source;
-    let b = n.bulk;
-    let dx = n.drain_ext;
-    let sx = n.source_ext;
+    let Nodes {
+        drain_ext: dx,
+        source_ext: sx,
+        drain: d,
+        gate: g,
+        source: s,
+        bulk: b,
+    } = places::indices(t);
     [
         d, d, d, d, s, s, s, s, dx, dx, d, d, sx, sx, s, s, b, b, s, s, b, b, d, d, g, g, s, s, g,
         g, d, d, g, g, b, b, b, b, s, s, b, b, d, d,
@@ -110,13 +94,14 @@ fn rows(t: Terminals) -> [usize; 44]
 fn columns(t: Terminals) -> [usize; 44]
     ensures { result ≡ column_indices (positions_of t) }
 {
-    let n = places::indices(t);
-    let d = n.drain;
-    let g = n.gate;
-    let s = n.source;
-    let b = n.bulk;
-    let dx = n.drain_ext;
-    let sx = n.source_ext;
+    let Nodes {
+        drain_ext: dx,
+        source_ext: sx,
+        drain: d,
+        gate: g,
+        source: s,
+        bulk: b,
+    } = places::indices(t);
     [
         g, d, s, b, g, d, s, b, dx, d, dx, d, sx, s, sx, s, b, s, b, s, b, d, b, d, g, s, s, g, g,
         d, d, g, g, b, b, g, b, s, s, b, b, d, d, b,
@@ -124,11 +109,8 @@ fn columns(t: Terminals) -> [usize; 44]
 }
 
 // The cells that a device with these terminals may ever load: the 24 of the Jacobian's values and those of the charge branches.
-pub fn cells(t: Terminals) -> CellList
-    requires { any_node_beyond row_width t ≡ false }
-    ensures { Listed (cells_of t) result.numbers result.count }
+pub fn cells(t: BoundTerminals) -> CellList
+    ensures { Listed (cells_of t.terminals) result.numbers result.count }
 {
-    let row = rows(t);
-    let column = columns(t);
-    insert_cells(row, column)
+    insert_cells(rows(t.terminals), columns(t.terminals))
 }

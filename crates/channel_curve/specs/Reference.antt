@@ -1,6 +1,6 @@
 -- The device of the fourteen cases, as document 01 gives it: vto_t 1, kp_t 2, W/L 1, lambda and gamma 0, phi_t 0.6, gmin 0, no limiter.
 -- Drain at node 0, gate at node 1, source and bulk at ground. What 01 leaves open has the card's default, and the junctions carry nothing.
-use Rattle.std.specs.Prelude.{false, Float}
+use Rattle.std.specs.Prelude.{false, Float, None}
 use Rattle.std.specs.Float.{binary64}
 use Rattle.std.specs.Float.Ieee.{of_bits}
 use Rattle.exact.specs.Float64.{+0, +1}
@@ -13,7 +13,6 @@ use Rattle.device.specs.declared.Scaled.{Scaled}
 use Rattle.device.specs.declared.Terminals.{Terminals}
 use Rattle.device.specs.declared.Charges.{Charges}
 use Rattle.device.specs.declared.Discretisation.TheVariants as Discretisation
-use Rattle.device.specs.declared.Given.TheVariants.{Absent}
 use Rattle.device.specs.declared.NodeId.TheVariants.{Ground, At}
 use Rattle.device.specs.declared.Stage.TheVariants as Stage
 use Rattle.mosfet1.specs.declared.steps.Conditions.{Conditions}
@@ -53,8 +52,8 @@ the_card = record {
   lambda = +0;
   gamma = +0;
   phi = phi;
-  rd_card = Absent;
-  rs_card = Absent;
+  rd_card = None;
+  rs_card = None;
   rsh = +0;
   is_bulk = +0;
   js = +0;
@@ -152,7 +151,7 @@ the_charges = record {
 }
 
 abbrev pub no_history_lem : ChargeHistory
-no_history_lem = record { q_prev = +0; q_prev2 = Absent; i_prev = +0 }
+no_history_lem = record { q_prev = +0; q_prev2 = None; i_prev = +0 }
 
 abbrev pub the_device : Mosfet1
 the_device = record {

@@ -7,42 +7,27 @@ mod reference;
 ghost use Rattle.std.specs.Prelude.{◌≡◌};
 ghost use Rattle.channel_curve.specs.Curve.{point_at, point_of};
 
-use curve_text::Point;
-use hex_text::Bits;
-use model::calls::Evaluation;
+use device::OperatingPoint;
 
 // The channel at vgs and vds: drain at node 0, gate at node 1.
-fn point_at(vgs: f64, vds: f64) -> Point
+#[tactic(auto, unfolding(crate::specs::Curve::point_at, crate::specs::Curve::answered))]
+fn point_at(vgs: f64, vds: f64) -> Option<OperatingPoint>
     ensures { result ≡ point_at vgs vds }
 {
     let x = [vds, vgs];
-    match model::calls::eval(reference::device(), &x, false, reference::conditions()) {
-        Evaluation::Done(e) => {
-            let d = e.device;
-            let p = d.point;
-            Point::Good(p)
-        }
-        Evaluation::Refused(row) => Point::Bad,
-    }
+    let e = model::calls::eval(reference::device(), &x, false, reference::conditions()).ok()?;
+    Some(e.device.point)
 }
 
-// A whole line.
-pub fn point_of(line: &[u8]) -> Point
+// A whole line: sixteen digits, one space, sixteen digits.
+#[tactic(auto, using(std::proofs::lemmas::Bool::Decides::nat_tests), unfolding(crate::specs::Curve::point_of, crate::specs::Curve::both_read))]
+pub fn point_of(line: &[u8]) -> Option<OperatingPoint>
     ensures { result ≡ point_of line.now }
 {
-    if line.len() != 33 {
-        return Point::Bad;
+    if line.len() != 33 || line[16] != b' ' {
+        return None;
     }
-    if line[16] != 32 {
-        return Point::Bad;
-    }
-    let Bits::Is(g) = hex_text::bits_at(line, 0) else {
-        return Point::Bad;
-    };
-    let Bits::Is(d) = hex_text::bits_at(line, 17) else {
-        return Point::Bad;
-    };
-    let vgs = hex_text::float_of(g);
-    let vds = hex_text::float_of(d);
+    let vgs = hex_text::float_of(hex_text::bits_at(line, 0)?);
+    let vds = hex_text::float_of(hex_text::bits_at(line, 17)?);
     point_at(vgs, vds)
 }

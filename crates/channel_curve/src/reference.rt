@@ -1,9 +1,10 @@
 // The device of the fourteen cases: vto_t 1, kp_t 2, W/L 1, lambda and gamma 0, phi_t 0.6, bound and ready to be evaluated.
+// Plain literals: each stands beside the record of specs/ that it is, field by field, and no default is left to be looked up.
 ghost use Rattle.std.specs.Prelude.{◌≡◌};
 ghost use Rattle.channel_curve.specs.Reference.{the_card, the_geometry, the_scaled, the_terminals, the_point, the_charges, no_history_lem, the_device, the_conditions};
 
 use device::{
-    Card, ChargeHistory, Charges, Discretisation, Geometry, Given, Histories, Mosfet1, NodeId,
+    Card, ChargeHistory, Charges, Discretisation, Geometry, Histories, Mosfet1, NodeId,
     OperatingPoint, Scaled, Stage, Terminals,
 };
 use mosfet1::steps::Conditions;
@@ -18,8 +19,8 @@ fn card() -> Card
         lambda: 0.0,
         gamma: 0.0,
         phi: 0.6,
-        rd_card: Given::Absent,
-        rs_card: Given::Absent,
+        rd_card: None,
+        rs_card: None,
         rsh: 0.0,
         is_bulk: 0.0,
         js: 0.0,
@@ -137,7 +138,7 @@ fn history() -> ChargeHistory
 {
     ChargeHistory {
         q_prev: 0.0,
-        q_prev2: Given::Absent,
+        q_prev2: None,
         i_prev: 0.0,
     }
 }

@@ -1,4 +1,5 @@
 -- A branch's current under each method stands for the sum of the exact terms, with an error relative to the sum of their sizes.
+use Rattle.std.specs.Prelude.{Option, Some, None}
 use Prim.Native.Nat.{◌^◌}
 use mathlib.Core.List.{List}
 use lib.IntN.{pos}
@@ -16,9 +17,8 @@ use Rattle.exact.proofs.FractionDivision.{mul_div, div_cong}
 use Rattle.exact.proofs.Rounding.{rounds, sub_rounded}
 use Rattle.exact.proofs.RelativeErrors.{Rel, rel_given, rel_at_most, rel_scale, rel_weaken, rel_≈, rel_⊕, rel_⊖, rel_⊗}
 use Rattle.device.specs.declared.Discretisation.{Discretisation}
-use Rattle.device.specs.declared.Discretisation.TheVariants.{None, Euler, Trapezoid, Gear}
-use Rattle.device.specs.declared.Given.{Given}
-use Rattle.device.specs.declared.Given.TheVariants.{Absent, Value}
+use Rattle.device.specs.declared.Discretisation.TheVariants as Discretisation
+use Rattle.device.specs.declared.Discretisation.TheVariants.{Euler, Trapezoid, Gear}
 use Rattle.device.specs.declared.ChargeHistory.{ChargeHistory}
 use Rattle.float.specs.Constants.{two}
 use Rattle.reactive.specs.Charge.{euler_of, trapezoid_of, gear_of, gear_at_of, gear_or_euler_of, charge_current_of, gear_conductance_of, scale_of}
@@ -124,11 +124,11 @@ module _ {q q1 : Float} (Q : AtMost q (pos 170)) (Q1 : AtMost q1 (pos 170)) {h :
         (gear_total (value h) rho (value q) (value q1) (value q2)) (gear_sizes (value h) rho (value q) (value q1) (value q2))
 
     -- with a charge before the last
-    gear_method : (before : Given) → HoldsBefore (Gear h h1) before → IfHeld (λ q2. AtMost q2 (pos 170)) before
+    gear_method : (before : Option Float) → HoldsBefore (Gear h h1) before → IfHeld (λ q2. AtMost q2 (pos 170)) before
         → Method (gear_conductance_of +1 h h1) (gear_or_euler_of before h h1 q q1) (gear_or_euler_terms before (value h) (value h1) (value q) (value q1))
     unfolding gear_or_euler_of gear_of gear_at_of gear_or_euler_terms
-    gear_method Absent none P = absurd none
-    gear_method (Value q2) held P = record {
+    gear_method None none P = absurd none
+    gear_method (Some q2) held P = record {
       exact = (nat 1 +q nat 2 *q (value h /q value h1)) /q (value h *q (nat 1 +q value h /q value h1));
       matrix = gear_matrix_factor H H1;
       own = gear_factor H H1;
@@ -137,7 +137,7 @@ module _ {q q1 : Float} (Q : AtMost q (pos 170)) (Q1 : AtMost q1 (pos 170)) {h :
 
 pub method_of_lem : (disc : Discretisation) {alpha c v q : Float} {past : ChargeHistory} → ChargeSizes disc alpha c v q past → Method (scale_of disc alpha) (charge_current_of disc alpha q past) (exact_terms disc alpha q past)
 unfolding scale_of charge_current_of euler_of trapezoid_of exact_terms
-method_of_lem None {alpha} P = let A = alpha_factor P.method in record { exact = value alpha; matrix = A; own = A; current = alpha_current P.charge P.last A }
+method_of_lem Discretisation.None {alpha} P = let A = alpha_factor P.method in record { exact = value alpha; matrix = A; own = A; current = alpha_current P.charge P.last A }
 method_of_lem (Euler h) P = let H = P.method in record { exact = nat 1 /q value h; matrix = euler_matrix_factor H; own = euler_factor H; current = euler_current P.charge P.last H }
 method_of_lem (Trapezoid h) P = let H = P.method in record { exact = nat 2 /q value h; matrix = trapezoid_matrix_factor H; own = trapezoid_factor H; current = trapezoid_current P.charge P.last H P.current }
 method_of_lem (Gear h h1) {past = past} P = let (H, H1) = P.method in gear_method P.charge P.last H H1 past.q_prev2 P.holds P.before

@@ -1,4 +1,5 @@
 -- Where the capacitance, the charges and the recorded current are zero: the exact current is zero, and no conductance is loaded.
+use Rattle.std.specs.Prelude.{Option, Some, None}
 use mathlib.Core.Path.{◌≡◌, sym, subst}
 use mathlib.Core.Bool.{Bool, true, false, not, cond}
 use mathlib.Core.List.{List, [], ◌∷◌}
@@ -18,9 +19,8 @@ use Rattle.exact.proofs.Closeness.{within_refl, within_mono, within_≈}
 use Rattle.exact.proofs.FractionDivision.{div_cong, zero_div}
 use Rattle.exact.proofs.Tests.{is_false}
 use Rattle.device.specs.declared.Discretisation.{Discretisation}
-use Rattle.device.specs.declared.Discretisation.TheVariants.{None, Euler, Trapezoid, Gear}
-use Rattle.device.specs.declared.Given.{Given}
-use Rattle.device.specs.declared.Given.TheVariants.{Absent, Value}
+use Rattle.device.specs.declared.Discretisation.TheVariants as Discretisation
+use Rattle.device.specs.declared.Discretisation.TheVariants.{Euler, Trapezoid, Gear}
 use Rattle.device.specs.declared.ChargeHistory.{ChargeHistory}
 use Rattle.charge_current.specs.ChargeCurrent.{euler_terms, trapezoid_terms, gear_or_euler_terms, exact_terms, total, sizes, absolute_tolerance, charge_bound, Step, MethodSizes, IfHeld, Zero, OnlyZeros}
 use Rattle.charge_current.proofs.Terms.{alpha_total, euler_total, trapezoid_total, gear_total}
@@ -55,14 +55,14 @@ module _ {q q1 : Float} (Q : Zero q) (Q1 : Zero q1) {h : Float} (H : Step h) whe
   zero_trapezoid : (i1 : Float) → Zero i1 → total (trapezoid_terms (value h) (value q) (value q1) (value i1)) ≈q nat 0
   zero_trapezoid i1 I = ≈_trans (≈_sym (trapezoid_total (value h) (value q) (value q1) (value i1))) (zero_difference (zero_quotient H (zero_product (nat 2) (zero_difference Q.zero Q1.zero))) I.zero)
 
-  zero_gear : (h1 : Float) (before : Given) → IfHeld Zero before → total (gear_or_euler_terms before (value h) (value h1) (value q) (value q1)) ≈q nat 0
+  zero_gear : (h1 : Float) (before : Option Float) → IfHeld Zero before → total (gear_or_euler_terms before (value h) (value h1) (value q) (value q1)) ≈q nat 0
   unfolding gear_or_euler_terms
-  zero_gear h1 Absent none = zero_euler
-  zero_gear h1 (Value q2) Q2 = ≈_trans (≈_sym (gear_total (value h) (value h /q value h1) (value q) (value q1) (value q2))) (zero_sum (zero_difference (zero_product _ Q.zero) (zero_product _ Q1.zero)) (zero_product _ Q2.zero))
+  zero_gear h1 None none = zero_euler
+  zero_gear h1 (Some q2) Q2 = ≈_trans (≈_sym (gear_total (value h) (value h /q value h1) (value q) (value q1) (value q2))) (zero_sum (zero_difference (zero_product _ Q.zero) (zero_product _ Q1.zero)) (zero_product _ Q2.zero))
 
 pub zero_current : (disc : Discretisation) (alpha c q : Float) (past : ChargeHistory) → MethodSizes disc alpha → OnlyZeros c q past → total (exact_terms disc alpha q past) ≈q nat 0
 unfolding exact_terms
-zero_current None alpha c q past A Z = ≈_trans (≈_sym (alpha_total (value alpha) (value q) (value past.q_prev))) (zero_product (value alpha) (zero_difference Z.charge.zero Z.last.zero))
+zero_current Discretisation.None alpha c q past A Z = ≈_trans (≈_sym (alpha_total (value alpha) (value q) (value past.q_prev))) (zero_product (value alpha) (zero_difference Z.charge.zero Z.last.zero))
 zero_current (Euler h) alpha c q past H Z = zero_euler Z.charge Z.last H
 zero_current (Trapezoid h) alpha c q past H Z = zero_trapezoid Z.charge Z.last H past.i_prev Z.current
 zero_current (Gear h h1) alpha c q past H Z = zero_gear Z.charge Z.last H.0 h1 past.q_prev2 Z.before

@@ -1,5 +1,5 @@
 -- A charge branch in demand 3: the method's exact current, what a loaded branch returns, and how near the two must be.
-use Rattle.std.specs.Prelude.{◌^◌, cond, List, [], ◌∷◌, T, pos, Float}
+use Rattle.std.specs.Prelude.{◌^◌, cond, List, [], ◌∷◌, T, pos, Float, Option, Some, None}
 use Rattle.std.specs.Float.{binary64}
 use Rattle.std.specs.Float.Ieee.{of_bits}
 use Rattle.std.specs.Float.Ieee.Scale.{finite}
@@ -7,9 +7,8 @@ use Rattle.exact.specs.Fraction.{ℚ, ◌//◌, nat, ◌+q◌, negq, ◌-q◌, �
 use Rattle.exact.specs.FloatValue.{value}
 use Rattle.exact.specs.Size.{AtMost, Range}
 use Rattle.device.specs.declared.Discretisation.{Discretisation}
-use Rattle.device.specs.declared.Discretisation.TheVariants.{None, Euler, Trapezoid, Gear}
-use Rattle.device.specs.declared.Given.{Given}
-use Rattle.device.specs.declared.Given.TheVariants.{Absent, Value}
+use Rattle.device.specs.declared.Discretisation.TheVariants as Discretisation
+use Rattle.device.specs.declared.Discretisation.TheVariants.{Euler, Trapezoid, Gear}
 use Rattle.device.specs.declared.ChargeHistory.{ChargeHistory}
 use Rattle.stamps.specs.declared.ChargeBranch.{ChargeBranch}
 
@@ -32,12 +31,12 @@ gear_terms h rho q q1 q2 =
     ((nat 1 +q nat 2 *q rho) /q (h *q (nat 1 +q rho)) *q q) ∷ negq ((nat 1 +q rho) /q h *q q1) ∷ (rho *q rho /q (h *q (nat 1 +q rho)) *q q2) ∷ []
 
 -- `charge_current` is Euler's where no charge before the last is held
-unfoldable pub gear_or_euler_terms : Given → ℚ → ℚ → ℚ → ℚ → List ℚ
-gear_or_euler_terms (Value q2) h h1 q q1 = gear_terms h (h /q h1) q q1 (value q2)
-gear_or_euler_terms Absent h h1 q q1 = euler_terms h q q1
+unfoldable pub gear_or_euler_terms : Option Float → ℚ → ℚ → ℚ → ℚ → List ℚ
+gear_or_euler_terms (Some q2) h h1 q q1 = gear_terms h (h /q h1) q q1 (value q2)
+gear_or_euler_terms None h h1 q q1 = euler_terms h q q1
 
 unfoldable pub exact_terms : Discretisation → Float → Float → ChargeHistory → List ℚ
-exact_terms None alpha q past = alpha_terms (value alpha) (value q) (value past.q_prev)
+exact_terms Discretisation.None alpha q past = alpha_terms (value alpha) (value q) (value past.q_prev)
 exact_terms (Euler h) alpha q past = euler_terms (value h) (value q) (value past.q_prev)
 exact_terms (Trapezoid h) alpha q past = trapezoid_terms (value h) (value q) (value past.q_prev) (value past.i_prev)
 exact_terms (Gear h h1) alpha q past = gear_or_euler_terms past.q_prev2 (value h) (value h1) (value q) (value past.q_prev)
@@ -94,23 +93,23 @@ Step h = Range h (value shortest_step) (nat 1)
 
 -- "alpha outside 1 to 1e16 where no step is given" is refused; with a step alpha is any float
 abbrev pub MethodSizes : Discretisation → Float → Type 0
-MethodSizes None alpha = Range alpha (nat 1) (nat (10 ^ 16))
+MethodSizes Discretisation.None alpha = Range alpha (nat 1) (nat (10 ^ 16))
 MethodSizes (Euler h) alpha = Step h
 MethodSizes (Trapezoid h) alpha = Step h
 MethodSizes (Gear h h1) alpha = Step h × Step h1
 
 -- "under Gear with an earlier step, each branch whose history current is loaded holds a charge before the last"
-abbrev pub HoldsBefore : Discretisation → Given → Type 0
-HoldsBefore None before = Unit {0}
+abbrev pub HoldsBefore : Discretisation → Option Float → Type 0
+HoldsBefore Discretisation.None before = Unit {0}
 HoldsBefore (Euler h) before = Unit {0}
 HoldsBefore (Trapezoid h) before = Unit {0}
-HoldsBefore (Gear h h1) Absent = ⊥
-HoldsBefore (Gear h h1) (Value q2) = Unit {0}
+HoldsBefore (Gear h h1) None = ⊥
+HoldsBefore (Gear h h1) (Some q2) = Unit {0}
 
 -- a fact of the charge before the last, where there is one
-abbrev pub IfHeld : (Float → Type 0) → Given → Type 0
-IfHeld P Absent = Unit {0}
-IfHeld P (Value q2) = P q2
+abbrev pub IfHeld : (Float → Type 0) → Option Float → Type 0
+IfHeld P None = Unit {0}
+IfHeld P (Some q2) = P q2
 
 -- "recorded branch currents stay below 1e100 A in size"
 pub record RecordedSize (i1 : Float) : Type 0 where

@@ -33,19 +33,19 @@ pub fn gate_shares(vgs: f64, vds: f64, vth: f64, cox_wl: f64) -> GateShares
 pub fn charges_at(geometry: Geometry, shares: GateShares, grading: Grading, v: Voltages) -> Charges
     ensures { result ≡ charges_of geometry shares grading v }
 {
-    let vd = v.vd;
-    let vg = v.vg;
-    let vs = v.vs;
-    let vb = v.vb;
+    let Voltages { vd, vg, vs, vb } = v;
     let cgs = geometry.cgs_ov + shares.gs;
     let cgd = geometry.cgd_ov + shares.gd;
     let cgb = geometry.cgb_ov + shares.gb;
     let vbs = vb - vs;
     let vbd = vb - vd;
-    let fc = grading.fc;
-    let pb_t = grading.pb_t;
-    let mj = grading.mj;
-    let mjsw = grading.mjsw;
+    let Grading {
+        fc,
+        pb_t,
+        mj,
+        mjsw,
+        ..
+    } = grading;
     let bs_bottom = geometry.cbs_bot * grading.cj_t_factor;
     let bs_sidewall = geometry.cbs_sw * grading.cjsw_t_factor;
     let bd_bottom = geometry.cbd_bot * grading.cj_t_factor;

@@ -4,16 +4,16 @@
 #![tactic(auto)]
 
 ghost use Rattle.std.specs.Prelude.{◌<◌, ◌≡◌, true, length, get_or};
+ghost use Rattle.device.specs.Refusals.{outcome};
 ghost use Rattle.stamps.specs.Stamps.{charge_branches_of};
 ghost use Rattle.places.specs.Places.{nodes_of};
 ghost use Rattle.adding.specs.Adding.{add_sources};
-ghost use Rattle.loading.specs.Loading.{outcome_of_load};
 ghost use Rattle.resolved_rows.specs.LoadResolved.{LoadedResolved};
 ghost use Rattle.resolved_rows.specs.ByNumbers.{branch_stored, branches_stored, conducting_stored};
 ghost use Rattle.load_resolved.specs.ByNumbers.{add_conductance, add_branch, add_branches_stored, history_sources};
 
-use device::Mosfet1;
-use loading::{LoadAnswer, LoadKind};
+use device::{Mosfet1, Refusal};
+use loading::LoadKind;
 use places::Nodes;
 use stamps::{ChargeBranch, ChargeBranches};
 
@@ -35,27 +35,7 @@ fn add_four(xs: &mut [f64], a: usize, b: usize, g: f64, aa: usize, ab: usize, bb
     }
 }
 
-// A charge branch that conducts.
-fn add_branch(
-    xs: &mut [f64],
-    br: ChargeBranch,
-    a: usize,
-    b: usize,
-    aa: usize,
-    ab: usize,
-    bb: usize,
-    ba: usize,
-)
-    requires { branch_stored (length xs.old) br.conducts a b aa ab bb ba ≡ true }
-    ensures { xs.new ≡ add_branch br a b aa ab bb ba xs.old }
-{
-    let g = br.conductance;
-    if br.conducts {
-        add_four(xs, a, b, g, aa, ab, bb, ba);
-    }
-}
-
-// A charge branch by the indices of its four places.
+// A charge branch, where it conducts, by the indices of its four places. Reading them here keeps the caller short.
 fn branch_at(
     xs: &mut [f64],
     br: ChargeBranch,
@@ -71,17 +51,23 @@ fn branch_at(
         × (branch_stored (length xs.old) br.conducts a b (get_or cells.now aa 0) (get_or cells.now ab 0) (get_or cells.now bb 0) (get_or cells.now ba 0) ≡ true)))) }
     ensures { xs.new ≡ add_branch br a b (get_or cells.now aa 0) (get_or cells.now ab 0) (get_or cells.now bb 0) (get_or cells.now ba 0) xs.old }
 {
-    add_branch(xs, br, a, b, cells[aa], cells[ab], cells[bb], cells[ba]);
+    if br.conducts {
+        let g = br.conductance;
+        add_four(xs, a, b, g, cells[aa], cells[ab], cells[bb], cells[ba]);
+    }
 }
 
 fn add_branches(xs: &mut [f64], n: Nodes, cells: &[usize; 37], b: ChargeBranches)
     requires { conducting_stored (length xs.old) n cells.now b ≡ true }
     ensures { xs.new ≡ add_branches_stored n cells.now b xs.old }
 {
-    let gate = n.gate;
-    let drain = n.drain;
-    let source = n.source;
-    let bulk = n.bulk;
+    let Nodes {
+        drain,
+        gate,
+        source,
+        bulk,
+        ..
+    } = n;
     branch_at(xs, b.gs, gate, source, cells, 32, 33, 14, 12);
     branch_at(xs, b.gd, gate, drain, cells, 32, 34, 9, 8);
     branch_at(xs, b.gb, gate, bulk, cells, 32, 35, 24, 36);
@@ -93,20 +79,18 @@ fn add_branches(xs: &mut [f64], n: Nodes, cells: &[usize; 37], b: ChargeBranches
 fn add_histories(xs: &mut [f64], n: Nodes, b: ChargeBranches)
     ensures { xs.new ≡ add_sources (history_sources n b) xs.old }
 {
-    let drain = n.drain;
-    let gate = n.gate;
-    let source = n.source;
-    let bulk = n.bulk;
-    let gs = b.gs;
-    let gd = b.gd;
-    let gb = b.gb;
-    let bs = b.bs;
-    let bd = b.bd;
-    adding::add_history(xs, gate, source, gs.remembers, gs.history);
-    adding::add_history(xs, gate, drain, gd.remembers, gd.history);
-    adding::add_history(xs, gate, bulk, gb.remembers, gb.history);
-    adding::add_history(xs, bulk, source, bs.remembers, bs.history);
-    adding::add_history(xs, bulk, drain, bd.remembers, bd.history);
+    let Nodes {
+        drain,
+        gate,
+        source,
+        bulk,
+        ..
+    } = n;
+    adding::add_history(xs, gate, source, b.gs.remembers, b.gs.history);
+    adding::add_history(xs, gate, drain, b.gd.remembers, b.gd.history);
+    adding::add_history(xs, gate, bulk, b.gb.remembers, b.gb.history);
+    adding::add_history(xs, bulk, source, b.bs.remembers, b.bs.history);
+    adding::add_history(xs, bulk, drain, b.bd.remembers, b.bd.history);
 }
 
 fn charge_branches(d: Mosfet1, alpha: f64) -> ChargeBranches
@@ -146,18 +130,15 @@ pub fn load_resolved(
     cells: &[usize; 37],
     rhs: &mut [f64],
     values: &mut [f64],
-) -> LoadAnswer
-    ensures { LoadedResolved d kind cells.now rhs.old values.old (outcome_of_load result) rhs.new values.new }
+) -> Result<(), Refusal>
+    ensures { LoadedResolved d kind cells.now rhs.old values.old (outcome result) rhs.new values.new }
 {
     let n = places::indices(d.terminals);
-    let row = resolved_rows::resolved_row(n, d, kind, false, cells, rhs.len(), values.len());
-    if row != 0 {
-        return LoadAnswer::Refused(row);
-    }
+    resolved_rows::resolved_row(n, d, kind, false, cells, rhs.len(), values.len())?;
     load_resolved::add_static(n, d, cells, rhs, values);
     match kind {
         LoadKind::DirectCurrent => {}
         LoadKind::Transient(alpha) => add_charges(n, d, alpha, cells, rhs, values),
     }
-    LoadAnswer::Done
+    Ok(())
 }

@@ -11,8 +11,7 @@ use lib.Dec.{T, leb, ltb, eqb}
 use lib.Ieee.{Float}
 use borrow.Author.Tests.{leb-true, ltb-true, ltb-false, eqb-true, eq-eqb, ne_eqb}
 use Rattle.pattern.specs.Pattern.{rising, row_columns, pairs_fit, place_in, cell_of}
-use Rattle.pattern.specs.declared.Found.{Found}
-use Rattle.pattern.specs.declared.Found.TheVariants.{At as FoundAt, Absent}
+use Rattle.std.specs.Prelude.{Option, Some, None}
 use Rattle.pattern.proofs.Rows.{and_left, and_right, row_at, same_count}
 use Rattle.pattern.proofs.Places.{cell_outside}
 use Rattle.device.specs.declared.NodeId.{NodeId}
@@ -53,8 +52,8 @@ record Held (start : ℕ) (xs : List ℕ) (column p : ℕ) : Type 0 where
   inside : index < length xs
   holds : get_or xs index 0 ≡ column
 
-pick_held : (start x : ℕ) (xs : List ℕ) (column p : ℕ) (rest : Found) (b : Bool) → eqb x column ≡ b → (rest ≡ FoundAt p → Held (suc start) xs column p)
-    → cond b (FoundAt start) rest ≡ FoundAt p → Held start (x ∷ xs) column p
+pick_held : (start x : ℕ) (xs : List ℕ) (column p : ℕ) (rest : Option ℕ) (b : Bool) → eqb x column ≡ b → (rest ≡ Some p → Held (suc start) xs column p)
+    → cond b (Some start) rest ≡ Some p → Held start (x ∷ xs) column p
 pick_held start x xs column p rest true q later e =
     let h : start ≡ p = cc in
     record { index = 0; place_is = omega arith; inside = omega arith; holds = eqb-true x column q }
@@ -62,7 +61,7 @@ pick_held start x xs column p rest false q later e =
     let h = later e in
     record { index = suc h.index; place_is = omega arith; inside = omega arith; holds = h.holds }
 
-place_held : (start : ℕ) (xs : List ℕ) (column p : ℕ) → place_in start xs column ≡ FoundAt p → Held start xs column p
+place_held : (start : ℕ) (xs : List ℕ) (column p : ℕ) → place_in start xs column ≡ Some p → Held start xs column p
 unfolding place_in
 place_held start [] column p e = let z : ◌≡◌ {A = ℕ} 0 1 = cc in absurd (omega arith)
 place_held start (x ∷ xs) column p e =
@@ -76,7 +75,7 @@ record CellAt (columns os ns : List ℕ) (r c p : ℕ) : Type 0 where
   is_column : get_or columns p 0 ≡ c
 
 module _ (columns os ns : List ℕ) (fit : pairs_fit columns 0 os ns ≡ true) where
-  cell_in_row : (r c p : ℕ) → r < length os → cell_of columns os ns r c ≡ FoundAt p → CellAt columns os ns r c p
+  cell_in_row : (r c p : ℕ) → r < length os → cell_of columns os ns r c ≡ Some p → CellAt columns os ns r c p
   unfolding cell_of
   cell_in_row r c p l e =
       let o = get_or os r 0 in
@@ -93,7 +92,7 @@ module _ (columns os ns : List ℕ) (fit : pairs_fit columns 0 os ns ≡ true) w
         is_column = ap (λ (q : ℕ). get_or columns q 0) h.place_is ∙ sym (get_or-drop o (take (o + n) columns) i 0 ∙ get_or-take (o + n) columns (o + i) 0 below) ∙ h.holds;
       }
 
-  cell_at : (r c p : ℕ) → cell_of columns os ns r c ≡ FoundAt p → CellAt columns os ns r c p
+  cell_at : (r c p : ℕ) → cell_of columns os ns r c ≡ Some p → CellAt columns os ns r c p
   cell_at r c p e = go (ltb r (length os)) refl
     where
       go : (b : Bool) → ltb r (length os) ≡ b → CellAt columns os ns r c p
@@ -107,7 +106,7 @@ module _ (columns os ns : List ℕ) (fit : pairs_fit columns 0 os ns ≡ true) w
   not_before : (r s c b p : ℕ) → CellAt columns os ns r c p → CellAt columns os ns s b p → r < s → ⊥
   not_before r s c b p x y l = omega (arith, rows_apart columns 0 os ns fit r s l y.row_there)
 
-  pub one_place_one_row : (r s c b p : ℕ) → cell_of columns os ns r c ≡ FoundAt p → cell_of columns os ns s b ≡ FoundAt p → r ≡ s
+  pub one_place_one_row : (r s c b p : ℕ) → cell_of columns os ns r c ≡ Some p → cell_of columns os ns s b ≡ Some p → r ≡ s
   one_place_one_row r s c b p e f =
       let x = cell_at r c p e in
       let y = cell_at s b p f in
@@ -120,30 +119,30 @@ module _ (columns os ns : List ℕ) (fit : pairs_fit columns 0 os ns ≡ true) w
       go false e true f g h = absurd (h (ltb-true s r f))
       go false e false f g h = omega (arith, ltb-false r s e, ltb-false s r f)
 
-  pub one_place_one_column : (r s c b p : ℕ) → cell_of columns os ns r c ≡ FoundAt p → cell_of columns os ns s b ≡ FoundAt p → c ≡ b
+  pub one_place_one_column : (r s c b p : ℕ) → cell_of columns os ns r c ≡ Some p → cell_of columns os ns s b ≡ Some p → c ≡ b
   one_place_one_column r s c b p e f = sym (cell_at r c p e).is_column ∙ (cell_at s b p f).is_column
 
 -- ---- a cell that gets no contribution has a place that gets none
-found_at : (f : Found) (p : ℕ) → found_place f ≡ at p → f ≡ FoundAt p
+found_at : (f : Option ℕ) (p : ℕ) → found_place f ≡ at p → f ≡ Some p
 unfolding found_place
-found_at (FoundAt q) p e = cc
-found_at Absent p e = let z : ◌≡◌ {A = ℕ} 0 1 = cc in absurd (omega arith)
+found_at (Some q) p e = cc
+found_at None p e = let z : ◌≡◌ {A = ℕ} 0 1 = cc in absurd (omega arith)
 
 module _ (P : Pattern) (fit : pairs_fit P.columns 0 P.offsets P.lengths ≡ true) (r c p : ℕ) (here : place_of P (At r) (At c) ≡ at p) where
-  abbrev cell : ℕ → ℕ → Found
+  abbrev cell : ℕ → ℕ → Option ℕ
   cell s b = cell_of P.columns P.offsets P.lengths s b
 
-  found_here : cell r c ≡ FoundAt p
+  found_here : cell r c ≡ Some p
   unfolding place_of
   found_here = found_at (cell r c) p here
 
-  not_found : (s b : ℕ) (f : Found) → cell s b ≡ f → (eqb s r && eqb b c) ≡ false → is_place (found_place f) p ≡ false
+  not_found : (s b : ℕ) (f : Option ℕ) → cell s b ≡ f → (eqb s r && eqb b c) ≡ false → is_place (found_place f) p ≡ false
   unfolding found_place is_place
-  not_found s b Absent e other = refl
-  not_found s b (FoundAt q) e other =
+  not_found s b None e other = refl
+  not_found s b (Some q) e other =
       ne_eqb q p
       (λ h.
-      let there : cell s b ≡ FoundAt p = e ∙ ap FoundAt h in
+      let there : cell s b ≡ Some p = e ∙ ap Some h in
       let same_row = one_place_one_row P.columns P.offsets P.lengths fit s r b c p there found_here in
       let same_column = one_place_one_column P.columns P.offsets P.lengths fit s r b c p there found_here in
       let z : true ≡ false = sym (both (eqb s r) (eqb b c) (eq-eqb s r same_row) (eq-eqb b c same_column)) ∙ other in

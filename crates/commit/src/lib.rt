@@ -9,6 +9,7 @@ use capacitance::Grading;
 use device::{Charges, Discretisation, Geometry, Histories, Mosfet1, OperatingPoint};
 
 // The gate's charges by the evaluated capacitances, the junctions' by the scaling in force.
+#[tactic(auto, unfolding(mosfet1::specs::Steps::committed_histories_of))]
 fn committed_histories(
     h: Histories,
     disc: Discretisation,
@@ -19,55 +20,38 @@ fn committed_histories(
 ) -> Histories
     ensures { result ≡ committed_histories_of h disc c geometry grading v }
 {
-    let vg = v.vg;
-    let vb = v.vb;
-    let vs = v.vs;
-    let vd = v.vd;
+    let Voltages { vd, vg, vs, vb } = v;
     let q_bs = capacitance::q_depl(grading, geometry.cbs_bot, geometry.cbs_sw, vb - vs);
     let q_bd = capacitance::q_depl(grading, geometry.cbd_bot, geometry.cbd_sw, vb - vd);
-    let gs_hist = reactive::advance(disc, c.cgs_eval * (vg - vs), h.gs_hist);
-    let gd_hist = reactive::advance(disc, c.cgd_eval * (vg - vd), h.gd_hist);
-    let gb_hist = reactive::advance(disc, c.cgb_eval * (vg - vb), h.gb_hist);
-    let bs_hist = reactive::advance(disc, q_bs, h.bs_hist);
-    let bd_hist = reactive::advance(disc, q_bd, h.bd_hist);
     Histories {
-        gs_hist,
-        gd_hist,
-        gb_hist,
-        bs_hist,
-        bd_hist,
+        gs_hist: reactive::advance(disc, c.cgs_eval * (vg - vs), h.gs_hist),
+        gd_hist: reactive::advance(disc, c.cgd_eval * (vg - vd), h.gd_hist),
+        gb_hist: reactive::advance(disc, c.cgb_eval * (vg - vb), h.gb_hist),
+        bs_hist: reactive::advance(disc, q_bs, h.bs_hist),
+        bd_hist: reactive::advance(disc, q_bd, h.bd_hist),
     }
 }
 
 // The limiter's predecessors are the committed voltages, flipped and not limited.
+#[tactic(auto, unfolding(mosfet1::specs::Steps::committed_point_of))]
 fn committed_point(p: OperatingPoint, pol: f64, v: Voltages) -> OperatingPoint
     ensures { result ≡ committed_point_of p pol v }
 {
-    let vs = v.vs;
     OperatingPoint {
-        ids_eval: p.ids_eval,
-        gbs: p.gbs,
-        gbd: p.gbd,
-        ibs_eq: p.ibs_eq,
-        ibd_eq: p.ibd_eq,
-        gm: p.gm,
-        gds: p.gds,
-        gmbs: p.gmbs,
-        jeq: p.jeq,
-        vgs_eff_prev: pol * (v.vg - vs),
-        vds_eff_prev: pol * (v.vd - vs),
+        vgs_eff_prev: pol * (v.vg - v.vs),
+        vds_eff_prev: pol * (v.vd - v.vs),
+        ..p
     }
 }
 
+#[tactic(auto, unfolding(mosfet1::specs::Steps::committed_of))]
 pub fn committed(d: Mosfet1, v: Voltages) -> Mosfet1
     ensures { result ≡ committed_of d v }
 {
-    let disc = d.disc;
     let grading = charges::grading(d.card, d.scaled);
-    let histories = committed_histories(d.histories, disc, d.charges, d.geometry, grading, v);
-    let point = committed_point(d.point, d.card.polarity, v);
-    let mut next = d;
-    next.histories = histories;
-    next.point = point;
-    next
+    Mosfet1 {
+        point: committed_point(d.point, d.card.polarity, v),
+        histories: committed_histories(d.histories, d.disc, d.charges, d.geometry, grading, v),
+        ..d
+    }
 }

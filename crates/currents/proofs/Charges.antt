@@ -1,4 +1,5 @@
 -- A transient load's charge branches on a device that holds a transient evaluation.
+use Rattle.std.specs.Prelude.{Option}
 use mathlib.Core.Path.{◌≡◌, refl, sym, subst}
 use mathlib.Core.Bool.{Bool, true, false, not, ◌&&◌}
 use mathlib.Core.List.{List}
@@ -14,9 +15,9 @@ use Rattle.exact.proofs.Ranges.{range_constants}
 use Rattle.exact.proofs.Sizes.{at_most_weaken}
 use Rattle.device.specs.declared.Charges as device
 use Rattle.device.specs.declared.Discretisation.{Discretisation}
-use Rattle.device.specs.declared.Discretisation.TheVariants.{None, Euler, Trapezoid, Gear}
+use Rattle.device.specs.declared.Discretisation.TheVariants as Discretisation
+use Rattle.device.specs.declared.Discretisation.TheVariants.{Euler, Trapezoid, Gear}
 use Rattle.device.specs.declared.Geometry.{Geometry}
-use Rattle.device.specs.declared.Given.{Given}
 use Rattle.device.specs.declared.Histories.{Histories}
 use Rattle.device.specs.declared.Mosfet1.{Mosfet1}
 use Rattle.reactive.specs.Charge.{has_step_of}
@@ -61,7 +62,7 @@ alpha_range alpha e =
 
 pub method_sizes : (disc : Discretisation) (alpha : Float) → arguments.MethodSizes disc → alpha_outside disc (Transient alpha) ≡ false → MethodSizes disc alpha
 unfolding alpha_outside has_step_of
-method_sizes None alpha arguments.none e = alpha_range alpha e
+method_sizes Discretisation.None alpha arguments.none e = alpha_range alpha e
 method_sizes (Euler h) alpha (arguments.euler H) e = H
 method_sizes (Trapezoid h) alpha (arguments.trapezoid H) e = H
 method_sizes (Gear h h1) alpha (arguments.gear H H1) e = (H, H1)
@@ -129,7 +130,7 @@ voltage_size gb W = difference_at_most (difference_range W.vg W.vb)
 voltage_size bs W = difference_at_most (difference_range W.vb W.vs)
 voltage_size bd W = difference_at_most (difference_range W.vb W.vd)
 
-if_held : {g : Given} → EarlierSize g → IfHeld (λ q2. AtMost q2 (pos 170)) g
+if_held : {g : Option Float} → EarlierSize g → IfHeld (λ q2. AtMost q2 (pos 170)) g
 if_held absent = tt
 if_held (value Q) = Q
 

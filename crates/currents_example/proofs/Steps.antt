@@ -6,6 +6,7 @@ use Rattle.card.specs.Card.{card_of, parameters_of}
 use Rattle.device.specs.Refusals.{done}
 use Rattle.device.specs.declared.Stage.TheVariants as Stage
 use Rattle.device.specs.declared.Mosfet1.{Mosfet1}
+use Rattle.entries.specs.Entries.{settings_of}
 use Rattle.geometry.specs.Geometry.{geometry_of, sizes_of}
 use Rattle.setup.specs.Binding.{binding_of}
 use Rattle.setup.specs.Scaling.{scaling_of}
@@ -15,7 +16,7 @@ use Rattle.currents_example.specs.Trace.{fresh, sized, bound, evaluated1, commit
 use Rattle.currents_example.proofs.Computing.{floats, keys, temperatures, model, rows}
 
 pub card_answered : card_of false card_bytes card_offsets card_lengths card_values 0 ≡ done (record { device = fresh; unknown = 0 })
-unfolding card_of parameters_of keys floats
+unfolding card_of parameters_of settings_of keys floats
 card_answered = refl
 
 -- a call on the device d leaves the device e
@@ -23,7 +24,7 @@ pub record Leaves (c : Call) (d e : Mosfet1) : Type 0 where
   pub is : after c d ≡ e
 
 pub geometry_leaves : Leaves geometry_call fresh (sized Stage.Geometry)
-unfolding after answer device_left geometry_of sizes_of keys floats
+unfolding after answer device_left geometry_of sizes_of settings_of keys floats
 geometry_leaves = record { is = refl }
 
 pub binding_leaves : Leaves binding_call (sized Stage.Scaled) bound

@@ -1,5 +1,5 @@
 -- The devices that the calls of the example leave, computed: each number by its bits.
-use Rattle.std.specs.Prelude.{ℕ, true, List, [], ◌∷◌, Float}
+use Rattle.std.specs.Prelude.{ℕ, true, List, [], ◌∷◌, Float, Some, None}
 use Rattle.std.specs.Float.{binary64}
 use Rattle.std.specs.Float.Ieee.{of_bits}
 use Rattle.exact.specs.Float64.{+0, +1}
@@ -7,9 +7,9 @@ use Rattle.device.specs.declared.Card.{Card}
 use Rattle.device.specs.declared.ChargeHistory.{ChargeHistory}
 use Rattle.device.specs.declared.Charges.{Charges}
 use Rattle.device.specs.declared.Discretisation.{Discretisation}
-use Rattle.device.specs.declared.Discretisation.TheVariants.{None, Euler, Trapezoid, Gear}
+use Rattle.device.specs.declared.Discretisation.TheVariants as Discretisation
+use Rattle.device.specs.declared.Discretisation.TheVariants.{Euler, Trapezoid, Gear}
 use Rattle.device.specs.declared.Geometry.{Geometry}
-use Rattle.device.specs.declared.Given.TheVariants.{Absent, Value}
 use Rattle.device.specs.declared.Histories.{Histories}
 use Rattle.device.specs.declared.Mosfet1.{Mosfet1}
 use Rattle.device.specs.declared.NodeId.TheVariants.{Ground, At}
@@ -34,8 +34,8 @@ card = record {
   lambda = f64 0x3f94_7ae1_47ae_147b;
   gamma = f64 0x3fe0_0000_0000_0000;
   phi = f64 0x3fe3_3333_3333_3333;
-  rd_card = Absent;
-  rs_card = Absent;
+  rd_card = None;
+  rs_card = None;
   rsh = +0;
   is_bulk = f64 0x3d06_849b_86a1_2b9b;
   js = +0;
@@ -217,7 +217,7 @@ committed_point p vgs vds = record {
 
 -- the last charge, the one before it and the recorded current
 abbrev past : Float → Float → Float → ChargeHistory
-past q q2 i = record { q_prev = q; q_prev2 = Value q2; i_prev = i }
+past q q2 i = record { q_prev = q; q_prev2 = Some q2; i_prev = i }
 
 abbrev pub histories1 : Histories
 histories1 = record {
@@ -247,7 +247,7 @@ fresh = record {
   point = fresh_point;
   charges = fresh_charges;
   histories = fresh_histories;
-  disc = None;
+  disc = Discretisation.None;
   stage = Stage.Card;
 }
 
@@ -261,7 +261,7 @@ sized stage = record {
   point = fresh_point;
   charges = fresh_charges;
   histories = fresh_histories;
-  disc = None;
+  disc = Discretisation.None;
   stage = stage;
 }
 
@@ -274,7 +274,7 @@ bound = record {
   point = fresh_point;
   charges = fresh_charges;
   histories = fresh_histories;
-  disc = None;
+  disc = Discretisation.None;
   stage = Stage.Bound;
 }
 

@@ -1,4 +1,5 @@
 -- The line that is being read holds the first 34 bytes of a line k, and these decide what the line gives.
+use Rattle.std.specs.Prelude.{None}
 use Prim.Native.Nat.{ℕ, ◌+◌, ◌≤◌, ◌<◌, min}
 use mathlib.Core.Path.{◌≡◌, refl, sym, ◌∙◌, ap}
 use mathlib.Core.Bool.{Bool, true, false, cond}
@@ -9,22 +10,20 @@ use lib.Dec.{ltb}
 use lib.ListN.{length, take, set, length-set, length-append, length-take}
 use lib.Seq.{take_all, take-append-le, take-suc-set}
 use borrow.Author.Tests.{ltb-true, ltb-false, ne_eqb}
-use Rattle.curve_text.specs.declared.Point.TheVariants.{Bad}
 use Rattle.channel_curve.specs.Curve.{point_of}
 use Rattle.curve_lines.specs.declared.Line.{Line}
 use Rattle.curve_lines.specs.Pieces.{new_line, kept, longer_line}
 
 pub record Holds (line : Line) (k : List ℕ) : Type 0 where
-  pub on : line.over ≡ false
   pub room : length line.bytes ≡ 34
   pub count : line.len ≡ min (length k) 34
   pub first : kept line ≡ take 34 k
 
-pub holds_none : Holds (new_line false) []
+pub holds_none : Holds new_line []
 unfolding new_line kept
-holds_none = record { on = refl; room = refl; count = refl; first = refl }
+holds_none = record { room = refl; count = refl; first = refl }
 
-pub other_length : (w : List ℕ) → (length w ≡ 33 → ⊥) → point_of w ≡ Bad
+pub other_length : (w : List ℕ) → (length w ≡ 33 → ⊥) → point_of w ≡ None
 unfolding point_of
 other_length w h = simp (ne_eqb (length w) 33 h)
 
@@ -43,13 +42,12 @@ holds_longer line k b h = by_test (ltb line.len 34) refl
     more : length (k ++ (b ∷ [])) ≡ length k + 1
     more = length-append k (b ∷ [])
 
-    by_test : (t : Bool) → ltb line.len 34 ≡ t → Holds (cond t (record { bytes = set line.bytes line.len b; len = line.len + 1; over = line.over }) line) (k ++ (b ∷ []))
+    by_test : (t : Bool) → ltb line.len 34 ≡ t → Holds (cond t (record { bytes = set line.bytes line.len b; len = line.len + 1 }) line) (k ++ (b ∷ []))
     by_test true e =
         let small : line.len < 34 = ltb-true line.len 34 e in
         let size : line.len ≡ length k = omega (arith, h.count) in
         let all : take line.len line.bytes ≡ k = h.first ∙ take_all 34 k (omega (arith, h.count)) in
         record {
-          on = h.on;
           room = length-set line.bytes line.len b ∙ h.room;
           count = omega (arith, h.count, more);
           first =
@@ -61,7 +59,6 @@ holds_longer line k b h = by_test (ltb line.len 34) refl
     by_test false e =
         let long : 34 ≤ length k = omega (arith, h.count, ltb-false line.len 34 e) in
         record {
-          on = h.on;
           room = h.room;
           count = omega (arith, h.count, more);
           first = h.first ∙ sym (take-append-le 34 k (b ∷ []) long);

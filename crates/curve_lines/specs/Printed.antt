@@ -1,9 +1,8 @@
 -- What `curve` prints. Document 01: "prints `ids gm gds gmbs jeq` and a line each; any other line, or one under row 9, prints `bad`
 -- and ends it."
-use Rattle.std.specs.Prelude.{ℕ, Bool, true, false, cond, List, [], ◌∷◌, ◌++◌, eqb}
+use Rattle.std.specs.Prelude.{ℕ, Bool, true, false, cond, List, [], ◌∷◌, ◌++◌, eqb, Option, Some, None}
 use Rattle.curve_text.specs.Answer.{answer_text}
-use Rattle.curve_text.specs.declared.Point.{Point}
-use Rattle.curve_text.specs.declared.Point.TheVariants.{Good, Bad}
+use Rattle.device.specs.declared.OperatingPoint.{OperatingPoint}
 use Rattle.channel_curve.specs.Curve.{point_of}
 
 -- `ids gm gds gmbs jeq` and a newline
@@ -20,9 +19,9 @@ unfoldable pub lines_of : List ℕ → List (List ℕ)
 lines_of [] = []
 lines_of (b ∷ s) = cond (eqb b 10) ([] ∷ lines_of s) (longer b (lines_of s))
 
-unfoldable pub is_bad : Point → Bool
-is_bad (Good p) = false
-is_bad Bad = true
+unfoldable pub is_bad : Option OperatingPoint → Bool
+is_bad (Some p) = false
+is_bad None = true
 
 -- an answer for each line, up to the first bad one
 unfoldable pub answers_to : List (List ℕ) → List ℕ

@@ -10,11 +10,10 @@ fn show(rt: &impl Print, line: &[u8]) -> io::Result<()> {
     write_first(rt, &out, n)
 }
 
-// The first n bytes to standard output.
+// The first n bytes to standard output, by `get` as in `curve`.
 fn write_first(rt: &impl Print, out: &[u8], n: usize) -> io::Result<()> {
-    if n <= out.len() {
-        let start = 0;
-        rt.write_all(&out[start..n])?;
+    if let Some(text) = out.get(..n) {
+        rt.write_all(text)?;
     }
     Ok(())
 }
@@ -64,11 +63,12 @@ fn run(rt: &impl Print, first: &[u8], second: &[u8]) -> io::Result<()> {
     let mut out = [0u8; 1024];
     let heading = curve_lines::put_heading(&mut out);
     write_first(rt, &out, heading)?;
-    let f = curve_lines::feed_all(curve_lines::new_line(false), first, &mut out);
-    write_first(rt, &out, f.end)?;
-    let g = curve_lines::feed_all(f.line, second, &mut out);
-    write_first(rt, &out, g.end)?;
-    let end = curve_lines::last(g.line, &mut out);
+    let mut line = Some(curve_lines::new_line());
+    let a = curve_lines::feed_all(&mut line, first, &mut out);
+    write_first(rt, &out, a)?;
+    let b = curve_lines::feed_all(&mut line, second, &mut out);
+    write_first(rt, &out, b)?;
+    let end = curve_lines::last(line, &mut out);
     write_first(rt, &out, end)
 }
 

@@ -1,9 +1,7 @@
 -- The line that `curve` prints for a point.
-use Rattle.std.specs.Prelude.{ℕ, List, [], ◌∷◌, ◌++◌, Float}
+use Rattle.std.specs.Prelude.{ℕ, List, [], ◌∷◌, ◌++◌, Float, Option, Some, None}
 use Rattle.hex_text.specs.Text.{number_text}
 use Rattle.device.specs.declared.OperatingPoint.{OperatingPoint}
-use Rattle.curve_text.specs.declared.Point.{Point}
-use Rattle.curve_text.specs.declared.Point.TheVariants.{Good, Bad}
 
 -- a number and what stands behind it
 unfoldable pub column : Float → List ℕ → List ℕ
@@ -17,7 +15,7 @@ point_text p =
     ++ (column p.gm (32 ∷ []) ++ (column p.gds (32 ∷ []) ++ (column p.gmbs (32 ∷ []) ++ column p.jeq (10 ∷ []))))
 
 -- `bad` for a bad line
-unfoldable pub answer_text : Point → List ℕ
+unfoldable pub answer_text : Option OperatingPoint → List ℕ
 unfolding point_text
-answer_text (Good p) = point_text p
-answer_text Bad = 98 ∷ 97 ∷ 100 ∷ 10 ∷ []
+answer_text (Some p) = point_text p
+answer_text None = 98 ∷ 97 ∷ 100 ∷ 10 ∷ []

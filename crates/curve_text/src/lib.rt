@@ -7,14 +7,8 @@ ghost use Rattle.curve_text.specs.Answer.{column, point_text, answer_text};
 
 use device::OperatingPoint;
 
-// What a line gives: the channel's numbers, or a bad line.
-#[derive(Clone, Copy)]
-pub enum Point {
-    Good(OperatingPoint),
-    Bad,
-}
-
-// A number and the byte behind it.
+// A number and the byte behind it. What is written stands in a lent buffer with a place, as `hex_text` writes: its contracts say both.
+#[tactic(auto, using(hex_text::proofs::Joining::end_append, hex_text::proofs::Joining::text_append, hex_text::proofs::Joining::length_text), unfolding(crate::specs::Answer::column))]
 fn put_column(out: &mut [u8], at: usize, x: f64, behind: &[u8]) -> usize
     ensures value { result ≡ end_of (length out.old) at (column x behind.now) }
     ensures out_after { out.new ≡ text_at out.old at (column x behind.now) }
@@ -23,6 +17,7 @@ fn put_column(out: &mut [u8], at: usize, x: f64, behind: &[u8]) -> usize
     hex_text::put_text(out, n, behind)
 }
 
+#[tactic(auto, using(hex_text::proofs::Joining::end_append, hex_text::proofs::Joining::text_append, hex_text::proofs::Joining::length_text), unfolding(crate::specs::Answer::point_text))]
 fn put_point(out: &mut [u8], at: usize, p: OperatingPoint) -> usize
     ensures value { result ≡ end_of (length out.old) at (point_text p) }
     ensures out_after { out.new ≡ text_at out.old at (point_text p) }
@@ -35,12 +30,13 @@ fn put_point(out: &mut [u8], at: usize, p: OperatingPoint) -> usize
 }
 
 // The answer line of a point, from at on.
-pub fn put_answer(out: &mut [u8], at: usize, p: Point) -> usize
+#[tactic(auto, unfolding(crate::specs::Answer::answer_text))]
+pub fn put_answer(out: &mut [u8], at: usize, p: Option<OperatingPoint>) -> usize
     ensures value { result ≡ end_of (length out.old) at (answer_text p) }
     ensures out_after { out.new ≡ text_at out.old at (answer_text p) }
 {
     match p {
-        Point::Good(q) => put_point(out, at, q),
-        Point::Bad => hex_text::put_text(out, at, b"bad\n"),
+        Some(q) => put_point(out, at, q),
+        None => hex_text::put_text(out, at, b"bad\n"),
     }
 }

@@ -4,7 +4,9 @@
 
 ghost use Rattle.std.specs.Prelude.{◌≡◌};
 ghost use Rattle.device.specs.Limits.{within, outside_temperatures};
-ghost use Rattle.device.specs.Stages.{stage_number, before};
+ghost use Rattle.device.specs.Nodes.{node_beyond, any_node_beyond};
+ghost use Rattle.device.specs.Refusals.{number_of};
+ghost use Rattle.device.specs.Stages.{stage_number, before, unbound, unevaluated};
 
 use temperature::Kelvin;
 
@@ -15,11 +17,16 @@ pub enum NodeId {
     At(usize),
 }
 
-// A value that may be absent (`Option<f64>`).
-#[derive(Clone, Copy)]
-pub enum Given {
-    Absent,
-    Value(f64),
+impl NodeId {
+    // Whether the node lies behind so many rows; ground never does.
+    pub fn is_beyond(self, rows: usize) -> bool
+        ensures { result ≡ node_beyond rows self }
+    {
+        match self {
+            NodeId::Ground => false,
+            NodeId::At(row) => rows <= row,
+        }
+    }
 }
 
 // An integration method with its own step lengths, h and the earlier h.
@@ -31,8 +38,51 @@ pub enum Discretisation {
     Gear(f64, f64),
 }
 
+// Why a call is refused, each under the number that the C interface answers for it, in the order of these. 0 is no refusal.
+#[derive(Clone, Copy, Debug, PartialEq, Eq, PartialOrd, Ord)]
+pub enum Refusal {
+    // keys overlap or go past the bytes, or the counts differ
+    KeyPairs = 1,
+    // a byte of a key is not ASCII
+    KeyByte = 2,
+    // more unknown keys than the lent list has room for
+    UnknownKeys = 3,
+    // a key's value is NaN or out of its range
+    KeyValue = 4,
+    // flicker noise without an oxide capacitance
+    Oxide = 5,
+    // a temperature, tnom or gmin is NaN or out of range
+    Temperature = 6,
+    // phi or pb would fall below 0.05 V at this temperature
+    Potential = 7,
+    // a node lies behind the end of what is lent, or above 2^32 - 1
+    Node = 8,
+    // a voltage is not finite or beyond 1000 V
+    Voltage = 9,
+    // the call comes too early or too late
+    Stage = 10,
+    // a step, or alpha where there is no step, is out of range
+    Step = 11,
+    // the matrix is not laid out as it must be, or not as it was resolved
+    Pattern = 12,
+    // the matrix has no place for a value, or the cells are another binding's
+    MissingCell = 13,
+    // runs overlap or leave the right-hand side, a block has no run, or too many devices
+    Run = 14,
+    // an unknown tag, or memory that is no device
+    Tag = 100,
+}
+
+impl From<Refusal> for u8 {
+    ghost from_gives = { λ r n. n ≡ number_of r };
+
+    fn from(refusal: Refusal) -> u8 {
+        refusal as u8
+    }
+}
+
 // How far a device has come.
-#[derive(Clone, Copy)]
+#[derive(Clone, Copy, Debug, PartialEq, Eq, PartialOrd, Ord)]
 pub enum Stage {
     Card,
     Geometry,
@@ -41,30 +91,42 @@ pub enum Stage {
     Evaluated,
 }
 
+impl Stage {
+    // Row 10 of an evaluation: the device is not bound.
+    #[tactic(auto, unfolding(crate::specs::Stages::unbound))]
+    pub fn is_unbound(self) -> bool
+        ensures { result ≡ unbound self }
+    {
+        self < Stage::Bound
+    }
+
+    // Row 10 of what follows an evaluation: there was none.
+    #[tactic(auto, unfolding(crate::specs::Stages::unevaluated))]
+    pub fn is_unevaluated(self) -> bool
+        ensures { result ≡ unevaluated self }
+    {
+        self < Stage::Evaluated
+    }
+}
+
 pub fn stage_number(stage: Stage) -> u8
     ensures { result ≡ stage_number stage }
 {
-    match stage {
-        Stage::Card => 0,
-        Stage::Geometry => 1,
-        Stage::Scaled => 2,
-        Stage::Bound => 3,
-        Stage::Evaluated => 4,
-    }
+    stage as u8
 }
 
 // Whether a stage comes before another.
 pub fn before(stage: Stage, other: Stage) -> bool
     ensures { result ≡ before stage other }
 {
-    stage_number(stage) < stage_number(other)
+    stage < other
 }
 
 // Whether a number lies in a range, ends included; a NaN does not.
 pub fn within(x: f64, least: f64, greatest: f64) -> bool
     ensures { result ≡ within x least greatest }
 {
-    if least <= x { x <= greatest } else { false }
+    least <= x && x <= greatest
 }
 
 // Whether a temperature is one that row 6 refuses.
@@ -82,8 +144,8 @@ pub struct Card {
     pub lambda: f64,
     pub gamma: f64,
     pub phi: f64,
-    pub rd_card: Given,
-    pub rs_card: Given,
+    pub rd_card: Option<f64>,
+    pub rs_card: Option<f64>,
     pub rsh: f64,
     pub is_bulk: f64,
     pub js: f64,
@@ -154,6 +216,21 @@ pub struct Terminals {
     pub bulk: NodeId,
 }
 
+impl Terminals {
+    // Whether any of the six nodes lies behind so many rows.
+    #[tactic(auto, unfolding(crate::specs::Nodes::any_node_beyond))]
+    pub fn any_beyond(self, rows: usize) -> bool
+        ensures { result ≡ any_node_beyond rows self }
+    {
+        self.drain_ext.is_beyond(rows)
+            || self.source_ext.is_beyond(rows)
+            || self.drain.is_beyond(rows)
+            || self.gate.is_beyond(rows)
+            || self.source.is_beyond(rows)
+            || self.bulk.is_beyond(rows)
+    }
+}
+
 // What the last evaluation left: conductances, offsets, the current and the kept voltages.
 #[repr(C)]
 #[derive(Clone, Copy)]
@@ -193,7 +270,7 @@ pub struct Charges {
 #[derive(Clone, Copy)]
 pub struct ChargeHistory {
     pub q_prev: f64,
-    pub q_prev2: Given,
+    pub q_prev2: Option<f64>,
     pub i_prev: f64,
 }
 

@@ -1,5 +1,6 @@
 -- The loads of a bank's devices one after the other.
-use mathlib.Core.Path.{◌≡◌, sym, ap, ◌∙◌, subst}
+use mathlib.Core.Bool.{Bool, true, false, not}
+use mathlib.Core.Path.{◌≡◌, refl, sym, ap, ◌∙◌, subst}
 use mathlib.Core.List.{List, [], ◌∷◌}
 use Prim.Native.Nat.{ℕ, ◌+◌, ◌≤◌, ◌<◌}
 use native.Mathlib.Numerals.{add-one}
@@ -9,6 +10,8 @@ use lib.Ieee.{Float}
 use Rattle.device.specs.Refusals.{done}
 use Rattle.device.specs.declared.Mosfet1.{Mosfet1}
 use Rattle.assembly.specs.Assembly.{Pattern}
+use Rattle.pattern.specs.Pattern.{well_formed}
+use Rattle.loading.proofs.Rows.{well_columns}
 use Rattle.loading.specs.Loading.{load_of, Loaded}
 use Rattle.loading.specs.declared.LoadKind.{LoadKind}
 use Rattle.from_record.specs.Devices.{device_from}
@@ -20,6 +23,13 @@ use Rattle.device_bank.specs.Bank.{devices_of, bank_row}
 pub all_passed : (bank : List (List Float)) (k : LoadKind) (P : Pattern) (rows values : ℕ) → bank_row bank k P rows values ≡ 0 → Passed (devices_of bank) k P rows values
 unfolding bank_row
 all_passed bank k P rows values e = number_passed (devices_of bank) k P rows values e
+
+pub pattern_well : (bank : List (List Float)) (k : LoadKind) (P : Pattern) (rows values : ℕ) → bank_row bank k P rows values ≡ 0 → well_formed P.columns P.offsets P.lengths (length P.columns) ≡ true
+pattern_well bank k P rows values e = well_columns P.columns P.offsets P.lengths values (not_not _ (all_passed bank k P rows values e).row_12)
+  where
+    not_not : (b : Bool) → not b ≡ false → b ≡ true
+    not_not true h = refl
+    not_not false h = sym h
 
 module _ (bank : List (List Float)) (i : ℕ) (inside : i < length bank) (d : Mosfet1) (ed : d ≡ device_from (record_of (get_or bank i []))) (k : LoadKind) (P : Pattern) where
   -- the devices from the number i on: d, then those behind it

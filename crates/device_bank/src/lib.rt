@@ -2,91 +2,77 @@
 // the tags, the rows, asked of all of them before the first write, and the loads in device order.
 #![tactic(auto)]
 
-ghost use Rattle.std.specs.Prelude.{◌≡◌, false, not, length};
+ghost use Rattle.std.specs.Prelude.{◌≡◌, false, not, length, is_some};
+ghost use Rattle.pattern.specs.Pattern.{lists};
+ghost use Rattle.device.specs.Refusals.{number, outcome};
 ghost use Rattle.from_record.specs.Devices.{device_from};
 ghost use Rattle.record_words.specs.Words.{record_of};
 ghost use Rattle.bridge_devices.specs.Steps.{first_of};
 ghost use Rattle.bridge.specs.Bridge.{load_in_order, zeroed};
 ghost use Rattle.device_bank.specs.Bank.{devices_of, bank_good, bank_row};
 
-use device::Mosfet1;
+use device::{Mosfet1, Refusal};
 use loading::LoadKind;
+use pattern::{Pattern, WellFormed};
 
 // Whether every tag of every record is known.
 pub fn good_bank(bank: &[[f64; 113]]) -> bool
     ensures { result ≡ bank_good bank.now }
 {
-    let mut i: usize = 0;
-    while i < bank.len() {
-        if !record_words::good_words(&bank[i]) {
-            return false;
-        }
-        i += 1;
-    }
-    true
+    bank.iter().all(|w| record_words::good_words(w))
 }
 
 fn device_of(w: &[f64; 113]) -> Mosfet1
     ensures { result ≡ device_from (record_of w.now) }
 {
-    let r = record_words::record_of(w);
-    from_record::device_from(r)
+    from_record::device_from(record_words::record_of(w))
 }
 
 // Row 12 by itself: it speaks of the pattern, and is asked without a device too.
-fn pattern_row(well: bool) -> u8
-    ensures { result ≡ first_of false false false (not well) false }
+#[tactic(auto, unfolding(bridge_devices::specs::Steps::first_of))]
+fn pattern_row(tested: Option<WellFormed<'_>>) -> Result<(), Refusal>
+    ensures { number (outcome result) ≡ first_of false false false (not (is_some tested.entry)) false }
 {
-    if well {
-        return 0;
+    match tested {
+        Some(_) => Ok(()),
+        None => Err(Refusal::Pattern),
     }
-    12
 }
 
-// The lowest row that refuses one of the devices, or the pattern, into a right-hand side of so many rows; 0 where none does. The devices
-// are asked from the last to the first, so that what is known at each is the row of the devices behind it.
+// The lowest row that refuses one of the devices, or the pattern, into a right-hand side of so many rows.
 pub fn lowest_row(
     bank: &[[f64; 113]],
     kind: LoadKind,
     rows: usize,
     values: usize,
-    columns: &[u32],
-    offsets: &[usize],
-    lengths: &[usize],
-) -> u8
-    ensures { result ≡ bank_row bank.now kind (record { columns = columns.now; offsets = offsets.now; lengths = lengths.now }) rows values }
+    pattern: Pattern<'_>,
+) -> Result<(), Refusal>
+    ensures { number (outcome result) ≡ bank_row bank.now kind (lists pattern.entry) rows values }
 {
-    let well = pattern::well_formed(columns, offsets, lengths, values);
-    let mut row = pattern_row(well);
-    let mut i = bank.len();
-    while i > 0 {
-        i -= 1;
-        let d = device_of(&bank[i]);
-        let own = bridge_devices::device_row(d, kind, well, rows, columns, offsets, lengths);
-        row = bridge_devices::lower(own, row);
+    let tested = pattern.tested(values);
+    let mut row = pattern_row(tested);
+    for w in bank {
+        let own = bridge_devices::device_row(device_of(w), kind, rows, pattern, tested);
+        row = bridge_devices::lower(row, own);
     }
     row
 }
 
-// The loads of the devices in device order, where no row refuses one.
+// The loads of the devices in device order, where no row refuses one. So the pattern is one that row 12's test passed.
 pub fn add_devices(
     bank: &[[f64; 113]],
     kind: LoadKind,
     rhs: &mut [f64],
     values: &mut [f64],
-    columns: &[u32],
-    offsets: &[usize],
-    lengths: &[usize],
+    pattern: Pattern<'_>,
 )
-    requires { bank_row bank.now kind (record { columns = columns.now; offsets = offsets.now; lengths = lengths.now }) (length rhs.old) (length values.old) ≡ 0 }
+    requires { bank_row bank.now kind (lists pattern) (length rhs.old) (length values.old) ≡ 0 }
     ensures { record { side = rhs.new; matrix = values.new }
-        ≡ load_in_order kind (record { columns = columns.now; offsets = offsets.now; lengths = lengths.now }) (devices_of bank.now) (record { side = rhs.old; matrix = values.old }) }
+        ≡ load_in_order kind (lists pattern.entry) (devices_of bank.now) (record { side = rhs.old; matrix = values.old }) }
 {
-    let mut i: usize = 0;
-    while i < bank.len() {
-        let d = device_of(&bank[i]);
-        bridge_devices::add_device(d, kind, rhs, values, columns, offsets, lengths);
-        i += 1;
+    let tested = WellFormed { pattern };
+    for w in bank {
+        bridge_devices::add_device(device_of(w), kind, rhs, values, tested);
     }
 }
 
@@ -94,9 +80,5 @@ pub fn add_devices(
 pub fn set_to_zero(xs: &mut [f64])
     ensures { xs.new ≡ zeroed xs.old }
 {
-    let mut i: usize = 0;
-    while i < xs.len() {
-        xs[i] = 0.0;
-        i += 1;
-    }
+    xs.fill(0.0);
 }

@@ -9,19 +9,21 @@ use lib.Dec.{leb}
 use lib.Ieee.{Float, nan}
 use lib.ListN.{length, drop, get_or, set, length-drop, drop_of_length-le}
 use lib.Seq.{drop-cons, sets}
+use Rattle.std.specs.List.{list_any}
 pub use Rattle.key_pairs.proofs.Pairs.{Paired, paired}
 use Rattle.keys.specs.Names.{meaning_of}
 use Rattle.keys.specs.Ranges.{is_unknown}
 use Rattle.keys.specs.declared.Meaning.{Meaning}
 use Rattle.keys.specs.declared.Table.{Table}
-use Rattle.entries.specs.Entries.{Entry, entries_of, key_at, beyond_ascii, any_beyond_ascii, unknown_from, unknown_count, any_outside, any_tnom_outside, scan_of, scanned_with}
+use Rattle.entries.specs.Entries.{Entry, entries_of, key_at, beyond_ascii, any_beyond_ascii, unknown_from, unknown_count, any_outside, any_tnom_outside, scan_of, scanned_with, settings_of}
 use Rattle.entries.specs.declared.Scan.{Scan}
 
 -- ---- the bytes of a key
 
-pub ascii_step : (key : List ℕ) (i : ℕ) → i < length key → beyond_ascii (drop i key) ≡ (leb 128 (get_or key i 0) || beyond_ascii (drop (i + 1) key))
+pub any_ascii : (key : List ℕ) → list_any (λ (b : ℕ). leb 128 b) key ≡ beyond_ascii key
 unfolding beyond_ascii
-ascii_step key i h = rw (add-one i) (ap beyond_ascii (drop-cons key i 0 h))
+any_ascii [] = refl
+any_ascii (b ∷ bs) = ap (λ (x : Bool). leb 128 b || x) (any_ascii bs)
 
 -- ---- entries
 
@@ -84,6 +86,12 @@ count_rest table bytes os ls vs i =
 pub scan_cons : (table : Table) (e : Entry) (es : List Entry) → scanned_with (scan_of table es) (beyond_ascii e.key) (meaning_of table e.key) e.value ≡ scan_of table (e ∷ es)
 unfolding any_beyond_ascii any_outside any_tnom_outside
 scan_cons table e es = rw (count_cons table e es)
+
+-- ---- what the keys set
+
+pub settings_step : {S : Type 0} (assigned : S → Meaning → Float → S) (table : Table) (bytes offsets lengths : List ℕ) (values : List Float) → Paired bytes offsets lengths values → (s : S) (i : ℕ) → i < length offsets → settings_of assigned table (assigned s (meaning_of table (key_at bytes offsets lengths i)) (get_or values i nan)) (rest bytes offsets lengths values (i + 1)) ≡ settings_of assigned table s (rest bytes offsets lengths values i)
+unfolding settings_of
+settings_step assigned table bytes offsets lengths values p s i h = rw (add-one i) (sym (ap (settings_of assigned table s) (entry_step bytes offsets lengths values p i h)))
 
 -- ---- the list of unknown places
 

@@ -1,16 +1,18 @@
 -- What the rows of the keys leave: where they pass, and where they refuse.
 use mathlib.Core.Path.{◌≡◌, ◌∙◌, sym, ap}
-use mathlib.Core.Bool.{Bool, false}
+use mathlib.Core.Bool.{Bool, true, false}
 use mathlib.Core.List.{List, ◌++◌}
 use Prim.Native.Nat.{ℕ, ◌≤◌}
+use Rattle.std.specs.Prelude.{Result, Ok}
 use borrow.Author.Tests.{ltb-false}
 use lib.Ieee.{Float}
-use Rattle.device.specs.Refusals.{Row, unless, done, refused}
+use Rattle.device.specs.Refusals.{Row, unless, outcome, done, refused}
+use Rattle.device.specs.declared.Refusal.{Refusal}
+use Rattle.device.proofs.Branches.{cond_yes}
 use Rattle.device.proofs.Rows.{NoneOf, passed, refused_first}
 use Rattle.keys.specs.declared.Table.{Table}
-use Rattle.entries.specs.Entries.{entries_of, bad_pairs, unknown_count, any_tnom_outside, key_rows, keys_of, outcome_of_keys, KeysRead}
-use Rattle.entries.specs.declared.KeysAnswer.{KeysAnswer}
-use Rattle.entries.specs.declared.KeysAnswer.TheVariants.{Passed}
+use Rattle.entries.specs.Entries.{entries_of, bad_pairs, unknown_count, any_tnom_outside, key_rows, keys_of}
+use Rattle.entries.specs.declared.KeysRead.{KeysRead}
 
 -- what rows 1 to 4 leave
 pub record Passing (table : Table) (bytes offsets lengths : List ℕ) (values : List Float) (space m : ℕ) (b : Bool) : Type 0 where
@@ -32,5 +34,10 @@ module _ (table : Table) (bytes offsets lengths : List ℕ) (values : List Float
   refused_keys n later refuse x e = refused_first (key_rows table bytes offsets lengths values space) later _ refuse x e
 
 -- what an answer that passes the keys leaves
-pub answered : {table : Table} {bytes offsets lengths : List ℕ} {values : List Float} {space m : ℕ} {b : Bool} {answer : KeysAnswer} → outcome_of_keys answer ≡ keys_of table bytes offsets lengths values space → answer ≡ Passed m b → Passing table bytes offsets lengths values space m b
-answered said passed_is = passing _ _ _ _ _ _ _ _ (sym said ∙ ap outcome_of_keys passed_is)
+pub answered : {table : Table} {bytes offsets lengths : List ℕ} {values : List Float} {space : ℕ} {answer : Result KeysRead Refusal} {k : KeysRead} → outcome answer ≡ keys_of table bytes offsets lengths values space → answer ≡ Ok k → Passing table bytes offsets lengths values space k.unknown k.outside
+answered said passed_is = passing _ _ _ _ _ _ _ _ (sym said ∙ ap outcome passed_is)
+
+-- row 1 refuses before all others
+pub refused_pairs : (table : Table) (bytes offsets lengths : List ℕ) (values : List Float) (space : ℕ) → bad_pairs bytes offsets lengths values ≡ true → keys_of table bytes offsets lengths values space ≡ refused 1
+unfolding keys_of
+refused_pairs table bytes offsets lengths values space bad = sym (cond_yes _ _ bad)

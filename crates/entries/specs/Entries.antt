@@ -2,13 +2,11 @@
 use Rattle.std.specs.Prelude.{ℕ, suc, ◌+◌, Bool, false, cond, ◌||◌, List, [], ◌∷◌, leb, ltb, length, get_or, take, drop, Float}
 use Rattle.std.proofs.lemmas.List.Edits.{sets}
 use Rattle.device.specs.Refusals.{Row, unless, Outcome, done, refused, ◌when◌}
-use Rattle.device.specs.declared.Mosfet1.{Mosfet1}
 pub use Rattle.key_pairs.specs.Pairs.{pairs_astray, bad_pairs}
 use Rattle.keys.specs.Names.{meaning_of}
 use Rattle.keys.specs.Ranges.{outside_of, tnom_outside, is_unknown}
 use Rattle.keys.specs.declared.Meaning.{Meaning}
-use Rattle.entries.specs.declared.KeysAnswer.{KeysAnswer}
-use Rattle.entries.specs.declared.KeysAnswer.TheVariants.{Passed, Refused}
+use Rattle.entries.specs.declared.KeysRead.{KeysRead}
 use Rattle.entries.specs.declared.Scan.{Scan}
 use Rattle.keys.specs.declared.Table.{Table}
 
@@ -53,6 +51,11 @@ unfoldable pub any_outside : Table → List Entry → Bool
 any_outside table [] = false
 any_outside table (e ∷ es) = outside_of (meaning_of table e.key) e.value || any_outside table es
 
+-- what the keys set, where `assigned` is what one key more sets: a later key overrides
+unfoldable pub settings_of : {S : Type 0} → (S → Meaning → Float → S) → Table → S → List Entry → S
+settings_of assigned table s [] = s
+settings_of assigned table s (e ∷ es) = settings_of assigned table (assigned s (meaning_of table e.key) e.value) es
+
 -- row 6: any tnom given lies outside 200 to 500 K
 unfoldable pub any_tnom_outside : Table → List Entry → Bool
 any_tnom_outside table [] = false
@@ -80,25 +83,11 @@ key_rows table bytes offsets lengths values space =
     ∷ (4 when any_outside table es)
     ∷ []
 
--- what keys that pass rows 1 to 4 leave: the count of the unknown ones, and whether row 6 refuses a tnom
-pub record KeysRead : Type 0 where
-  pub unknown : ℕ
-  pub outside : Bool
-
--- KeysAnswer by its cases
-abbrev pub outcome_of_keys : KeysAnswer → Outcome KeysRead
-outcome_of_keys (Passed n b) = done (record { unknown = n; outside = b })
-outcome_of_keys (Refused n) = refused n
-
+-- what keys that pass rows 1 to 4 leave, or the refusal
 unfoldable pub keys_of : Table → List ℕ → List ℕ → List ℕ → List Float → ℕ → Outcome KeysRead
 keys_of table bytes offsets lengths values space =
     let es = entries_of bytes offsets lengths values in
     unless (key_rows table bytes offsets lengths values space) refused (done (record { unknown = unknown_count table es; outside = any_tnom_outside table es }))
-
--- what the card and the geometry call answer: the device, and the count of unknown keys
-pub record Keyed : Type 0 where
-  pub device : Mosfet1
-  pub unknown : ℕ
 
 -- the lent list after a call with these rows: the unknown keys' places in order at its front, its rest unchanged; unchanged after
 -- a refusal

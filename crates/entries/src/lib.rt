@@ -1,10 +1,11 @@
 // The keys of a call with their values: rows 1 to 4 of the refusals, and the places of the unknown keys.
 #![tactic(auto)]
 
-ghost use Rattle.std.specs.Prelude.{◌≡◌, true, false, cond, ◌||◌, ◌+◌, ◌≤◌, ◌<◌, ◌^◌, length, set};
+ghost use Rattle.std.specs.Prelude.{◌≡◌, ◌+◌, ◌≤◌, ◌<◌, ◌^◌, Float, length};
 ghost use Rattle.std.proofs.lemmas.List.Edits.{sets};
+ghost use Rattle.device.specs.Refusals.{outcome};
 ghost use Rattle.keys.specs.Names.{meaning_of};
-ghost use Rattle.key_pairs.specs.Pairs.{Inside, bad_pairs};
+ghost use Rattle.keys.specs.declared.Meaning.{Meaning};
 ghost use Rattle.entries.specs.Entries.{
   key_at,
   entries_of,
@@ -13,14 +14,16 @@ ghost use Rattle.entries.specs.Entries.{
   unknown_count,
   scan_of,
   scanned_with,
-  outcome_of_keys,
   keys_of,
+  settings_of,
 };
 
+use device::{Mosfet1, Refusal};
+use key_pairs::PairedKeys;
 use keys::{Meaning, Table};
 
-// What a pass over the keys finds: a byte of 128 or more, the count of unknown keys, a value outside its range, a nominal
-// temperature outside the limits.
+// What one pass over the keys finds: a byte of 128 or more, the count of unknown keys, a value outside its range, a nominal
+// temperature outside the limits. The four together, since a pass for each would look every name up again.
 #[derive(Clone, Copy)]
 pub struct Scan {
     pub beyond_ascii: bool,
@@ -29,164 +32,132 @@ pub struct Scan {
     pub tnom_outside: bool,
 }
 
-// What rows 1 to 4 leave: the count of unknown keys, and whether a nominal temperature lies outside the limits; or the number of
-// the refusal.
+// What keys that pass rows 1 to 4 leave: the count of the unknown ones, and whether row 6 refuses a tnom.
 #[derive(Clone, Copy)]
-pub enum KeysAnswer {
-    Passed(usize, bool),
-    Refused(u8),
+pub struct KeysRead {
+    pub unknown: usize,
+    pub outside: bool,
+}
+
+// What the card and the geometry call answer: the device, and the count of unknown keys.
+#[derive(Clone, Copy)]
+pub struct Keyed {
+    pub device: Mosfet1,
+    pub unknown: usize,
+}
+
+// What the keys of a call set, one after another.
+pub trait Settings: Copy {
+    // the settings after one key more
+    ghost with_key: { Self → Meaning → Float → Self };
+
+    fn assign(&mut self, m: Meaning, v: f64)
+        ensures { self.new ≡ with_key self.old m v };
 }
 
 // Whether a byte of a key is 128 or more.
 fn beyond_ascii(key: &[u8]) -> bool
     ensures { result ≡ beyond_ascii key.now }
 {
-    let mut i = 0;
-    while i < key.len() {
-        if 128 <= key[i] {
-            return true;
-        }
-        i += 1;
-    }
-    false
+    key.iter().any(|byte| 128 <= *byte)
 }
 
 // The key at a place.
-fn key_at<'a>(bytes: &'a [u8], offsets: &[usize], lengths: &[usize], i: usize) -> &'a [u8]
-    requires { Inside bytes.now offsets.now lengths.now i }
-    ensures { result.now ≡ key_at bytes.now offsets.now lengths.now i }
+fn key_at<'a>(keys: PairedKeys<'a>, i: usize) -> &'a [u8]
+    requires { i < length keys.lent.offsets.now }
+    ensures { result.now ≡ key_at keys.entry.lent.bytes.now keys.entry.lent.offsets.now keys.entry.lent.lengths.now i }
 {
-    let at = offsets[i];
-    let end = at + lengths[i];
-    &bytes[at..end]
+    let at = keys.lent.offsets[i];
+    let end = at + keys.lent.lengths[i];
+    &keys.lent.bytes[at..end]
 }
 
 // What the key at a place means.
-pub fn meaning_at(
-    table: Table,
-    bytes: &[u8],
-    offsets: &[usize],
-    lengths: &[usize],
-    i: usize,
-) -> Meaning
-    requires { Inside bytes.now offsets.now lengths.now i }
-    ensures { result ≡ meaning_of table (key_at bytes.now offsets.now lengths.now i) }
+pub fn meaning_at(table: Table, keys: PairedKeys<'_>, i: usize) -> Meaning
+    requires { i < length keys.lent.offsets.now }
+    ensures { result ≡ meaning_of table (key_at keys.entry.lent.bytes.now keys.entry.lent.offsets.now keys.entry.lent.lengths.now i) }
 {
-    key_names::meaning_of(table, key_at(bytes, offsets, lengths, i))
+    key_names::meaning_of(table, key_at(keys, i))
 }
 
-fn either(a: bool, b: bool) -> bool
-    ensures { result ≡ (a || b) }
-{
-    if a { true } else { b }
-}
-
-// One more where b holds.
-fn one_more_if(b: bool, n: usize) -> usize
-    requires { n + 1 < 2 ^ 64 }
-    ensures { result ≡ cond b (n + 1) n }
-{
-    if b { n + 1 } else { n }
-}
-
-// One key more, in front of those scanned.
-fn scanned_with(s: Scan, high: bool, m: Meaning, v: f64) -> Scan
-    requires { s.unknown + 1 < 2 ^ 64 }
-    ensures { result ≡ scanned_with s high m v }
-{
-    Scan {
-        beyond_ascii: either(high, s.beyond_ascii),
-        unknown: one_more_if(keys::is_unknown(m), s.unknown),
-        outside: either(keys::outside(m, v), s.outside),
-        tnom_outside: either(keys::tnom_outside(m, v), s.tnom_outside),
+impl Scan {
+    // One key more, in front of those scanned.
+    fn with(self, high: bool, m: Meaning, v: f64) -> Scan
+        requires { self.unknown + 1 < 2 ^ 64 }
+        ensures { result ≡ scanned_with self high m v }
+    {
+        Scan {
+            beyond_ascii: high || self.beyond_ascii,
+            unknown: if keys::is_unknown(m) {
+                self.unknown + 1
+            } else {
+                self.unknown
+            },
+            outside: keys::outside(m, v) || self.outside,
+            tnom_outside: keys::tnom_outside(m, v) || self.tnom_outside,
+        }
     }
 }
 
-// One pass over the keys, from the last to the first.
-fn scan_keys(
-    table: Table,
-    bytes: &[u8],
-    offsets: &[usize],
-    lengths: &[usize],
-    values: &[f64],
-) -> Scan
-    requires { bad_pairs bytes.now offsets.now lengths.now values.now ≡ false }
-    ensures { result ≡ scan_of table (entries_of bytes.now offsets.now lengths.now values.now) }
+// The settings after all keys.
+pub fn read<S: Settings>(table: Table, start: S, keys: PairedKeys<'_>) -> S
+    ensures { result ≡ settings_of S.with_key table start (entries_of keys.entry.lent.bytes.now keys.entry.lent.offsets.now keys.entry.lent.lengths.now keys.entry.lent.values.now) }
 {
-    let mut s = Scan {
+    let mut settings = start;
+    for i in 0..keys.lent.offsets.len() {
+        settings.assign(meaning_at(table, keys, i), keys.lent.values[i]);
+    }
+    settings
+}
+
+// One pass over the keys, from the last to the first.
+fn scan_keys(table: Table, keys: PairedKeys<'_>) -> Scan
+    ensures { result ≡ scan_of table (entries_of keys.entry.lent.bytes.now keys.entry.lent.offsets.now keys.entry.lent.lengths.now keys.entry.lent.values.now) }
+{
+    let mut scan = Scan {
         beyond_ascii: false,
         unknown: 0,
         outside: false,
         tnom_outside: false,
     };
-    let mut i = offsets.len();
-    while 0 < i {
-        i -= 1;
-        let key = key_at(bytes, offsets, lengths, i);
-        let high = beyond_ascii(key);
+    for i in (0..keys.lent.offsets.len()).rev() {
+        let key = key_at(keys, i);
         let m = key_names::meaning_of(table, key);
-        s = scanned_with(s, high, m, values[i]);
+        scan = scan.with(beyond_ascii(key), m, keys.lent.values[i]);
     }
-    s
+    scan
 }
 
-// Rows 1 to 4, with space for so many places of unknown keys.
-pub fn test_keys(
-    table: Table,
-    bytes: &[u8],
-    offsets: &[usize],
-    lengths: &[usize],
-    values: &[f64],
-    space: usize,
-) -> KeysAnswer
-    ensures { outcome_of_keys result ≡ keys_of table bytes.now offsets.now lengths.now values.now space }
+// Rows 1 to 4 for keys that row 1 lets pass, with space for so many places of unknown keys.
+pub fn test_keys(table: Table, keys: PairedKeys<'_>, space: usize) -> Result<KeysRead, Refusal>
+    ensures { outcome result ≡ keys_of table keys.entry.lent.bytes.now keys.entry.lent.offsets.now keys.entry.lent.lengths.now keys.entry.lent.values.now space }
 {
-    if key_pairs::bad_pairs(bytes, offsets, lengths, values) {
-        return KeysAnswer::Refused(1);
-    }
-    let scan = scan_keys(table, bytes, offsets, lengths, values);
+    let scan = scan_keys(table, keys);
     if scan.beyond_ascii {
-        return KeysAnswer::Refused(2);
+        return Err(Refusal::KeyByte);
     }
     if space < scan.unknown {
-        return KeysAnswer::Refused(3);
+        return Err(Refusal::UnknownKeys);
     }
     if scan.outside {
-        return KeysAnswer::Refused(4);
+        return Err(Refusal::KeyValue);
     }
-    KeysAnswer::Passed(scan.unknown, scan.tnom_outside)
-}
-
-// Writes i at place k of the list where b holds, and gives the next place.
-fn put_if(b: bool, list: &mut [usize], k: usize, i: usize) -> usize
-    requires { b ≡ true → k < length list.old }
-    ensures { (result ≡ cond b (k + 1) k) × (list.new ≡ cond b (set list.old k i) list.old) }
-{
-    if b {
-        list[k] = i;
-        return k + 1;
-    }
-    k
+    Ok(KeysRead {
+        unknown: scan.unknown,
+        outside: scan.tnom_outside,
+    })
 }
 
 // Writes the places of the unknown keys, in order, to the front of the list.
-pub fn list_unknown(
-    table: Table,
-    bytes: &[u8],
-    offsets: &[usize],
-    lengths: &[usize],
-    values: &[f64],
-    list: &mut [usize],
-)
-    requires { (bad_pairs bytes.now offsets.now lengths.now values.now ≡ false)
-        × (unknown_count table (entries_of bytes.now offsets.now lengths.now values.now) ≤ length list.old) }
-    ensures { list.new ≡ sets list.old 0 (unknown_from table 0 (entries_of bytes.now offsets.now lengths.now values.now)) }
+pub fn list_unknown(table: Table, keys: PairedKeys<'_>, list: &mut [usize])
+    requires { unknown_count table (entries_of keys.lent.bytes.now keys.lent.offsets.now keys.lent.lengths.now keys.lent.values.now) ≤ length list.old }
+    ensures { list.new ≡ sets list.old 0 (unknown_from table 0 (entries_of keys.entry.lent.bytes.now keys.entry.lent.offsets.now keys.entry.lent.lengths.now keys.entry.lent.values.now)) }
 {
     let mut k = 0;
-    let mut i = 0;
-    while i < offsets.len() {
-        let m = meaning_at(table, bytes, offsets, lengths, i);
-        k = put_if(keys::is_unknown(m), list, k, i);
-        i += 1;
+    for i in 0..keys.lent.offsets.len() {
+        if keys::is_unknown(meaning_at(table, keys, i)) {
+            list[k] = i;
+            k += 1;
+        }
     }
 }

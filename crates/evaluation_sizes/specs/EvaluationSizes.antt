@@ -1,5 +1,5 @@
 -- The bounds of what an evaluation or a commit leaves in the device, and the parameters' bounds that they rest on. Powers of two throughout: `pos 11` is 2 ^ 11.
-use Rattle.std.specs.Prelude.{T, pos, Float}
+use Rattle.std.specs.Prelude.{T, pos, Float, Option, Some, None}
 use Rattle.std.specs.Float.{binary64}
 use Rattle.std.specs.Float.Ieee.{fits}
 use Rattle.exact.specs.Fraction.{nat, negq}
@@ -8,8 +8,6 @@ use Rattle.device.specs.declared.Card.{Card}
 use Rattle.device.specs.declared.Charges as device
 use Rattle.device.specs.declared.ChargeHistory.{ChargeHistory}
 use Rattle.device.specs.declared.Geometry.{Geometry}
-use Rattle.device.specs.declared.Given.{Given}
-use Rattle.device.specs.declared.Given.TheVariants.{Absent, Value}
 use Rattle.device.specs.declared.Histories.{Histories}
 use Rattle.device.specs.declared.Mosfet1.{Mosfet1}
 use Rattle.device.specs.declared.OperatingPoint.{OperatingPoint}
@@ -86,9 +84,9 @@ pub record ChargesSizes (c : device.Charges) : Type 0 where
   pub q_bd : ChargeSize c.q_bd_eval
 
 -- the charge before the last, where there is one
-pub data EarlierSize : Given → Type 0 where
-  absent : EarlierSize Absent
-  value : {q : Float} → ChargeSize q → EarlierSize (Value q)
+pub data EarlierSize : Option Float → Type 0 where
+  absent : EarlierSize None
+  value : {q : Float} → ChargeSize q → EarlierSize (Some q)
 
 -- (the recorded current is bounded by a premise of demand 3 only)
 pub record HistorySizes (h : ChargeHistory) : Type 0 where

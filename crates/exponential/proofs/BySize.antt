@@ -1,9 +1,8 @@
 -- The tests of `exp`, each on the sign and the size at once, and what the exponential is by them. Assumes nothing.
-use Rattle.std.proofs.Common.{◌≡◌, ℕ, zero, suc, ◌*◌, ◌^◌, ◌<◌, Bool, true, false, not, ◌&&◌, ◌||◌, T, eqb, ltb, ℤ, sym, refl, ap, ◌∙◌, zero-lt-suc, arith, eqb→eq, lt→ltb, eq-eqb, ne_eqb, eqb-true}
+use Rattle.std.proofs.Common.{◌≡◌, ℕ, zero, suc, ◌*◌, ◌^◌, ◌<◌, Bool, true, false, ◌&&◌, ◌||◌, T, eqb, ltb, ℤ, sym, refl, ap, ◌∙◌, zero-lt-suc, arith, eqb→eq, lt→ltb, eq-eqb, ne_eqb, eqb-true}
 use borrow.Author.Tests.{eqb-false}
-use lib.Ieee.{Float, nan, inf, fin, binary64, fits, up, down, le, lt, eq, ne, neg, div, of_bits}
+use lib.Ieee.{Float, nan, inf, fin, binary64, fits, up, down, le, lt, eq, is_nan, neg, div, of_bits}
 use lib.Ieee.Fits.{and_l, and_r, down_pos}
-use lib.Ieee.Compare.{differs_from_itself}
 use lib.Ieee.Positive.{positive, above_of_le, le→cross}
 use Rattle.exact.specs.Float64.{◌⊘◌, +1}
 use Rattle.exact.proofs.Tests.{holds, clash}
@@ -80,9 +79,9 @@ inverse_at_none : +1 ≡ +1 ⊘ exp_fixed 0
 unfolding exp_fixed div of_bits
 inverse_at_none = refl
 
-pub exp_near_zero : (x : Float) → T (fits binary64 x) → le x (neg least) ≡ false → le least x ≡ false → eq x x ≡ true → +1 ≡ exp_of x
-unfolding le lt eq neg of_bits fits
-exp_near_zero nan f h g s = clash (sym s)
+pub exp_near_zero : (x : Float) → T (fits binary64 x) → le x (neg least) ≡ false → le least x ≡ false → is_nan x ≡ false → +1 ≡ exp_of x
+unfolding le lt is_nan neg of_bits fits
+exp_near_zero nan f h g s = clash s
 exp_near_zero (inf true) f h g s = clash h
 exp_near_zero (inf false) f h g s = clash g
 exp_near_zero (fin t zero e) f h g s = sym (exp_at_zero e t)
@@ -96,6 +95,8 @@ exp_near_zero (fin true (suc m) e) f h g s =
     let q = under_greatest (fin false (suc m) e) p l in
     inverse_at_none ∙ ap (λ (n : ℕ). +1 ⊘ exp_fixed n) (none (fin false (suc m) e) f p q l) ∙ exp_of_minus (fin true (suc m) e) p q
 
-pub exp_of_nan : (x : Float) → eq x x ≡ false → nan ≡ exp_of x
-unfolding ne
-exp_of_nan x h = sym (ap exp_of (differs_from_itself x (holds (ap not h))) ∙ exp_special_cases.not_a_number)
+pub exp_of_nan : (x : Float) → is_nan x ≡ true → nan ≡ exp_of x
+unfolding is_nan
+exp_of_nan nan h = sym exp_special_cases.not_a_number
+exp_of_nan (inf s) h = clash (sym h)
+exp_of_nan (fin s m e) h = clash (sym h)

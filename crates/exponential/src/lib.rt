@@ -37,7 +37,7 @@ pub fn whole_part(x: f64) -> u64
     requires { T (le least x) × T (le x greatest) }
     ensures { result ≡ fixed_of x }
 {
-    let bits = f64::to_bits(x);
+    let bits = x.to_bits();
     (((bits & 0xf_ffff_ffff_ffff) + 0x10_0000_0000_0000) * 2048) >> (1033 - (bits >> 52))
 }
 
@@ -60,7 +60,7 @@ pub fn exp_fixed(x: u64) -> f64
 }
 
 // 2^-53, the unit of the fixed point: a number of a smaller size has no whole part in it, and e^0 is 1.
-const UNIT: f64 = 0.00000000000000011102230246251565;
+pub const UNIT: f64 = 0.00000000000000011102230246251565;
 
 // e^x: +infinity above 700, 0 below -700, 1 near zero, NaN at NaN. The sign and the nearness to zero are one test: a number within the range meets two tests or three in all.
 pub fn exp(x: f64) -> f64
@@ -74,12 +74,9 @@ pub fn exp(x: f64) -> f64
     }
     if x >= UNIT {
         if x > 700.0 {
-            return 1.0 / 0.0;
+            return f64::INFINITY;
         }
         return exp_fixed(whole_part(x));
     }
-    if x == x {
-        return 1.0;
-    }
-    0.0 / 0.0
+    if x.is_nan() { f64::NAN } else { 1.0 }
 }

@@ -1,22 +1,18 @@
 -- A float's sign, read off by comparisons with zero: why `abs`, `signum` and `max` are what their definitions say.
-use Prim.Native.Nat.{ℕ, zero, suc, ◌+◌, ◌*◌, ◌^◌, ◌<◌, ◌≤◌}
-use mathlib.Core.Path.{◌≡◌, refl, sym, ap, ◌∙◌, subst}
+use Prim.Native.Nat.{ℕ, zero, suc, ◌+◌, ◌*◌, ◌<◌, ◌≤◌}
+use mathlib.Core.Path.{◌≡◌, refl, sym}
 use mathlib.Core.Logic.{◌⊎◌, inl, inr}
 use mathlib.Core.Bool.{Bool, true, false, ◌&&◌, ◌||◌, true≢false, false≢true}
-use native.Mathlib.Nat.{le_of_lt, le_of_eq, mul-one, one-mul, pow-succ'}
+use native.Mathlib.Nat.{le_of_lt, le_of_eq}
 use native.Mathlib.Omega.{arith}
 use lib.Arith.{lt_of_le-ne}
-use lib.Dec.{T, ltb, eqb, eqb→eq}
-use lib.Pow.{pow_pos}
-use lib.IntN.{ℤ, pos, negsuc}
-use borrow.Author.Tests.{ltb-true, ltb-false, eqb-true, eqb-false, eq-eqb, lt-ltb, le-ltb}
-use lib.Ieee.{Float, nan, inf, fin, binary64, up, down, neg, lt, le, eq, ne, div, of_bits, below, level, fits}
+use lib.Dec.{ltb, eqb}
+use lib.IntN.{ℤ}
+use borrow.Author.Tests.{ltb-true, ltb-false, eqb-true, eqb-false, lt-ltb, le-ltb}
+use lib.Ieee.{Float, nan, inf, fin, up, down, neg, lt, le, eq, is_nan, div, of_bits, below, level}
 use lib.Ieee.Fits.{up_pos}
-use lib.Ieee.Compare.{differs_from_itself}
-use Rattle.exact.specs.Float64.{+0, +1, ◌⊘◌, ◌<f◌, ◌>f◌, ◌≥f◌, ◌≠f◌, ◌=f◌, absolute, signum, maximum}
-
-holds : {b : Bool} → b ≡ true → T b
-holds e = subst T (sym e) tt
+use Rattle.std.specs.Float.{float_with_sign}
+use Rattle.exact.specs.Float64.{+0, +1, ◌⊘◌, ◌<f◌, ◌>f◌, ◌≥f◌, absolute, signum, maximum}
 
 both : (p q : Bool) → p && q ≡ true → p ≡ true
 both true q h = refl
@@ -29,24 +25,10 @@ not_zero m e b h = omega (arith, up_pos e)
 none_less : (a b : ℕ) → ltb a (0 * b) ≡ true → ⊥
 none_less a b h = let l : a < 0 * b = ltb-true a (0 * b) h in omega arith
 
-zero_level : (a b : ℕ) → eqb (0 * a * 1) (0 * b) && (false || eqb (0 * a * 1) 0) ≡ true
-zero_level a b = rw (eq-eqb (0 * a * 1) (0 * b) (omega arith), eq-eqb (0 * a * 1) 0 (omega arith))
-
-not_level : (m : ℕ) (e : ℤ) (b : ℕ) (q : Bool) → eqb (suc m * up e * 1) (0 * b) && q ≡ true → ⊥
-not_level m e b q z = let a : suc m * up e * 1 ≡ 0 * b = eqb-true _ _ (both _ q z) in omega (arith, up_pos e)
-
 not_above : (m : ℕ) (e : ℤ) (b : ℕ) → ltb (0 * b) (suc m * up e * 1) ≡ false → ⊥
 not_above m e b g = let a : suc m * up e * 1 ≤ 0 * b = ltb-false _ _ g in omega (arith, up_pos e)
 
 -- below zero the sign is set
-pub below_abs : (x : Float) → (x <f +0) ≡ true → neg x ≡ absolute x
-unfolding lt neg absolute of_bits
-below_abs nan h = absurd (false≢true h)
-below_abs (inf true) h = refl
-below_abs (inf false) h = absurd (false≢true h)
-below_abs (fin true m e) h = refl
-below_abs (fin false m e) h = absurd (none_less (m * up e * 1) (down e) h)
-
 pub below_sign : (x : Float) → (x <f +0) ≡ true → neg +1 ≡ signum x
 unfolding neg lt signum of_bits
 below_sign nan h = absurd (false≢true h)
@@ -64,34 +46,11 @@ above_sign (inf false) h = refl
 above_sign (fin true m e) h = absurd (false≢true h)
 above_sign (fin false m e) h = refl
 
--- a zero is written in one way
-two_no_one : (p : ℕ) → 0 < p → 2 * p ≡ 1 → ⊥
-two_no_one p h e = omega arith
-
-no_power : (e : ℤ) → up e * down e ≡ 1 → e ≡ pos 0
-no_power (pos zero) h = refl
-no_power (pos (suc k)) h = absurd (two_no_one (2 ^ k) (pow_pos k) (sym (pow-succ' 2 k) ∙ sym (mul-one (2 ^ suc k)) ∙ h))
-no_power (negsuc k) h = absurd (two_no_one (2 ^ k) (pow_pos k) (sym (pow-succ' 2 k) ∙ sym (one-mul (2 ^ suc k)) ∙ h))
-
-pub zero_abs : (x : Float) → T (fits binary64 x) → (x =f +0) ≡ true → +0 ≡ absolute x
-unfolding fits eq absolute of_bits
-zero_abs nan f z = absurd (false≢true z)
-zero_abs (inf s) f z = absurd (false≢true z)
-zero_abs (fin s zero e) f z = ap (λ (d : ℤ). fin false 0 d) (sym (no_power e (eqb→eq (up e * down e) 1 f)))
-zero_abs (fin s (suc m) e) f z = absurd (not_level m e _ _ z)
-
-pub above_same : (x : Float) → (x <f +0) ≡ false → (x =f +0) ≡ false → x ≡ absolute x
-unfolding lt eq absolute of_bits
-above_same nan l z = refl
-above_same (inf true) l z = absurd (true≢false l)
-above_same (inf false) l z = refl
-above_same (fin false m e) l z = refl
-above_same (fin true zero e) l z = absurd (true≢false (sym (zero_level (up e) (down e)) ∙ z))
-above_same (fin true (suc m) e) l z = absurd (not_zero m e _ (ltb-false _ _ l))
-
-pub nan_sign : (x : Float) → (x ≠f x) ≡ true → x ≡ signum x
-unfolding signum
-nan_sign x h = let e = differs_from_itself x (holds h) in e ∙ sym (ap signum e)
+pub nan_sign : (x : Float) → is_nan x ≡ true → x ≡ signum x
+unfolding signum is_nan
+nan_sign nan h = refl
+nan_sign (inf s) h = absurd (false≢true h)
+nan_sign (fin s m e) h = absurd (false≢true h)
 
 -- a zero's sign is that of its reciprocal, an infinity
 pub zero_below_sign : (x : Float) → (x >f +0) ≡ false → (+1 ⊘ x <f +0) ≡ true → neg +1 ≡ signum x
@@ -103,14 +62,21 @@ zero_below_sign (fin true m e) g h = refl
 zero_below_sign (fin false zero e) g h = absurd (false≢true h)
 zero_below_sign (fin false (suc m) e) g h = absurd (not_above m e _ g)
 
-pub zero_above_sign : (x : Float) → (x <f +0) ≡ false → (x ≠f x) ≡ false → (+1 ⊘ x <f +0) ≡ false → +1 ≡ signum x
-unfolding lt ne div signum of_bits
+pub zero_above_sign : (x : Float) → (x <f +0) ≡ false → is_nan x ≡ false → (+1 ⊘ x <f +0) ≡ false → +1 ≡ signum x
+unfolding lt is_nan div signum of_bits
 zero_above_sign nan l d h = absurd (true≢false d)
 zero_above_sign (inf true) l d h = absurd (true≢false l)
 zero_above_sign (inf false) l d h = refl
 zero_above_sign (fin false m e) l d h = refl
 zero_above_sign (fin true zero e) l d h = absurd (true≢false h)
 zero_above_sign (fin true (suc m) e) l d h = absurd (not_zero m e _ (ltb-false _ _ l))
+
+-- the method of std is what the definition says
+pub absolute_is : (x : Float) → float_with_sign false x ≡ absolute x
+unfolding float_with_sign absolute
+absolute_is nan = refl
+absolute_is (inf s) = refl
+absolute_is (fin s m e) = refl
 
 -- ---- of two, ±a and ±b: the first is not below the second where the second is below it or equal, and only there
 one_of : (p q : Bool) → p || q ≡ true → (p ≡ true) ⊎ (q ≡ true)
@@ -178,11 +144,14 @@ before_nan nan = refl
 before_nan (inf s) = refl
 before_nan (fin s m e) = refl
 
-pub max_of_nan : (x y : Float) → (y ≠f y) ≡ true → x ≡ maximum x y
-max_of_nan x y h = before_nan x ∙ sym (ap (λ (z : Float). maximum x z) (differs_from_itself y (holds h)))
+pub max_of_nan : (x y : Float) → is_nan y ≡ true → x ≡ maximum x y
+unfolding is_nan
+max_of_nan x nan h = before_nan x
+max_of_nan x (inf s) h = absurd (false≢true h)
+max_of_nan x (fin s m e) h = absurd (false≢true h)
 
-pub max_second : (x y : Float) → (x ≥f y) ≡ false → (y ≠f y) ≡ false → y ≡ maximum x y
-unfolding le lt eq ne maximum
+pub max_second : (x y : Float) → (x ≥f y) ≡ false → is_nan y ≡ false → y ≡ maximum x y
+unfolding le lt eq is_nan maximum
 max_second x nan h d = absurd (true≢false d)
 max_second nan (inf t) h d = refl
 max_second nan (fin t n d) h g = refl

@@ -2,7 +2,7 @@
 -- Assumes nothing.
 use Prim.Native.Nat.{ℕ, ◌≤◌}
 use mathlib.Core.Path.{◌≡◌, refl}
-use mathlib.Core.Bool.{Bool, true, false, cond, ◌&&◌}
+use mathlib.Core.Bool.{Bool, true, false, ◌&&◌}
 use lib.Dec.{leb}
 use lib.Bits.{bit_or, and_le_l, and_le_r, or_lt, or_add_and}
 use native.Mathlib.Omega.{arith}
@@ -24,8 +24,8 @@ by_both a b false t h k = lt-leb (bit_or a b) 1 (omega (arith, or_above_l a b, l
 pub or_known : (a b : ℕ) → leb (bit_or a b) 1 ≡ (leb a 1 && leb b 1)
 or_known a b = by_both a b (leb a 1) (leb b 1) refl refl
 
--- the third of six by itself, and the last after the others
-third_apart : (a b m t h s : Bool) → (a && b && m && t && h && s) ≡ cond (a && b && t && h) (cond m s false) false
+-- the third of six by itself, behind the others but the last
+third_apart : (a b m t h s : Bool) → (a && b && m && t && h && s) ≡ (a && b && t && h && m && s)
 third_apart false b m t h s = refl
 third_apart true false m t h s = refl
 third_apart true true true true true s = refl
@@ -41,6 +41,6 @@ or_of d t h = bit_or (bit_or (bit_or d.card.rd_card.tag d.card.rs_card.tag) t) h
 
 -- every tag is known where the OR is at most 1, the method's is at most 3 and the stage is one
 pub tags_at_once : (d : DeviceRecord) (t h : ℕ) → leb t 1 ≡ good_terminals d.terminals → leb h 1 ≡ good_histories d.histories →
-    good_tags d ≡ cond (leb (or_of d t h) 1) (cond (leb d.method.tag 3) (good_stage d.stage) false) false
+    good_tags d ≡ (leb (or_of d t h) 1 && leb d.method.tag 3 && good_stage d.stage)
 unfolding good_tags
 tags_at_once d t h e f = rw (or_known _ _, or_known _ _, or_known _ _, e, f) (third_apart (leb d.card.rd_card.tag 1) (leb d.card.rs_card.tag 1) (leb d.method.tag 3) (good_terminals d.terminals) (good_histories d.histories) (good_stage d.stage))

@@ -1,5 +1,6 @@
 -- The record of a device stands for that device, and a record with known tags for one whose record is that one, its unused fields at 0.
 -- Assumes nothing.
+use Rattle.std.specs.Prelude.{Option, Some, None}
 use Prim.Native.Nat.{ℕ, zero, suc}
 use mathlib.Core.Path.{◌≡◌, refl, sym, subst}
 use mathlib.Core.Bool.{Bool, true, false, ◌&&◌}
@@ -8,7 +9,6 @@ use lib.Ieee.{Float}
 use native.Mathlib.Omega.{arith}
 use borrow.Author.Tests.{leb-true}
 use Rattle.device.specs.declared.NodeId.{NodeId}
-use Rattle.device.specs.declared.Given.{Given}
 use Rattle.device.specs.declared.Discretisation.{Discretisation}
 use Rattle.device.specs.declared.Stage.{Stage}
 use Rattle.device.specs.declared.Card.{Card}
@@ -17,7 +17,6 @@ use Rattle.device.specs.declared.ChargeHistory.{ChargeHistory}
 use Rattle.device.specs.declared.Histories.{Histories}
 use Rattle.device.specs.declared.Mosfet1.{Mosfet1}
 use Rattle.device.specs.declared.NodeId.TheVariants.{Ground, At}
-use Rattle.device.specs.declared.Given.TheVariants.{Absent, Value}
 use Rattle.record.specs.declared.CardRecord.{CardRecord}
 use Rattle.record.specs.declared.TerminalsRecord.{TerminalsRecord}
 use Rattle.record.specs.declared.HistoryRecord.{HistoryRecord}
@@ -34,10 +33,10 @@ unfolding node_from node_record
 node_back Ground = refl
 node_back (At i) = refl
 
-given_back : (g : Given) → given_from (given_record g) ≡ g
+given_back : (g : Option Float) → given_from (given_record g) ≡ g
 unfolding given_from given_record
-given_back Absent = refl
-given_back (Value v) = refl
+given_back None = refl
+given_back (Some v) = refl
 
 method_back : (m : Discretisation) → method_from (method_record m) ≡ m
 unfolding method_from method_record
@@ -139,10 +138,10 @@ unfolding node_record
 node_tag Ground = refl
 node_tag (At i) = refl
 
-given_tag : (g : Given) → leb (given_record g).tag 1 ≡ true
+given_tag : (g : Option Float) → leb (given_record g).tag 1 ≡ true
 unfolding given_record
-given_tag Absent = refl
-given_tag (Value v) = refl
+given_tag None = refl
+given_tag (Some v) = refl
 
 method_tag : (m : Discretisation) → leb (method_record m).tag 3 ≡ true
 unfolding method_record

@@ -1,56 +1,28 @@
 -- What the geometry's proofs share: one key more, a product's test, and the call's answers by the tests that lead to them.
-use mathlib.Core.Path.{◌≡◌, refl, sym, ap, ◌∙◌}
-use mathlib.Core.Bool.{Bool, true, false, ◌&&◌, and-false}
+use mathlib.Core.Path.{◌≡◌, refl, ◌∙◌}
+use mathlib.Core.Bool.{Bool, true, false}
 use mathlib.Core.List.{List, [], ◌∷◌}
-use Prim.Native.Nat.{ℕ, ◌+◌, ◌<◌}
-use native.Mathlib.Numerals.{add-one}
-use native.Mathlib.Omega.{arith}
-use lib.Ieee.{Float, nan, inf, fin, lt, div, of_bits}
-use lib.ListN.{length, get_or}
+use Prim.Native.Nat.{ℕ}
+use lib.Ieee.{Float, nan, inf, fin}
+use Rattle.std.specs.Float.{float_is_finite}
+use lib.ListN.{length}
 use lib.Seq.{sets}
-use Rattle.exact.specs.Float64.{◌⊘◌, ◌<f◌, ◌>f◌, +0, +1}
 use Rattle.device.specs.Refusals.{Row, unless, done, refused, ◌when◌}
 use Rattle.device.specs.Stages.{before}
 use Rattle.device.specs.declared.Mosfet1.{Mosfet1}
 use Rattle.device.specs.declared.Stage.TheVariants.{Scaled}
 use Rattle.device.proofs.Branches.{cond_yes, cond_no}
 use Rattle.device.proofs.Rows.{NoneOf, later_decide}
-use Rattle.keys.specs.Names.{meaning_of}
 use Rattle.keys.specs.declared.Table.TheVariants as Table
-use Rattle.entries.specs.Entries.{entries_of, key_at, unknown_from, unknown_count, key_rows, keys_of}
-use Rattle.entries.proofs.Entries.{Paired, rest, entry_step}
+use Rattle.entries.specs.Entries.{entries_of, unknown_from, unknown_count, key_rows, keys_of}
 use Rattle.entries.proofs.Rows.{refused_keys}
-use Rattle.geometry.specs.Geometry.{assigned, sizes_of, finite, oxide_missing, sized_to, sizes_given, geometry_rows, geometry_of, geometry_list_of}
-use Rattle.geometry.specs.declared.Sizes.{Sizes}
+use Rattle.geometry.specs.Geometry.{finite, oxide_missing, sized_to, sizes_given, geometry_rows, geometry_of, geometry_list_of}
 
--- ---- finite and above 0, tested by two comparisons
-
-infinity_is : +1 ⊘ +0 ≡ inf false
-unfolding div of_bits
-infinity_is = refl
-
-no : {A : Type 0} → false ≡ true → A
-no e = let z : ◌≡◌ {A = ℕ} 0 1 = cc in absurd (omega arith)
-
-above_0 : (x : Float) → (x >f +0) ≡ true → (x <f inf false) ≡ (finite x && (x >f +0))
-unfolding lt of_bits
-above_0 nan t = no t
-above_0 (inf true) t = no t
-above_0 (inf false) t = refl
-above_0 (fin s m e) t = sym t
-
-pub below_infinity : (x : Float) → (x >f +0) ≡ true → (x <f +1 ⊘ +0) ≡ (finite x && (x >f +0))
-below_infinity x t = ap (λ (y : Float). x <f y) infinity_is ∙ above_0 x t
-
-pub not_above_0 : (x : Float) → (x >f +0) ≡ false → false ≡ (finite x && (x >f +0))
-not_above_0 x t = sym (ap (λ (b : Bool). finite x && b) t ∙ and-false (finite x))
-
--- ---- one key more
-
-pub size_step : (bytes offsets lengths : List ℕ) (values : List Float) → Paired bytes offsets lengths values → (s : Sizes) (i : ℕ) → i < length offsets → sizes_of (assigned s (meaning_of Table.Geometry (key_at bytes offsets lengths i)) (get_or values i nan)) (rest bytes offsets lengths values (i + 1)) ≡ sizes_of s (rest bytes offsets lengths values i)
-unfolding sizes_of
-size_step bytes offsets lengths values h s i l =
-    rw (add-one i) (sym (ap (sizes_of s) (entry_step bytes offsets lengths values h i l)))
+pub finite_is : (x : Float) → float_is_finite x ≡ finite x
+unfolding float_is_finite
+finite_is nan = refl
+finite_is (inf s) = refl
+finite_is (fin s m e) = refl
 
 -- ---- the answer and the list, by the tests that lead to them
 

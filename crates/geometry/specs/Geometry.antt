@@ -1,5 +1,5 @@
 -- The geometry call: an instance's sizes after all keys, and what follows from them and the card.
-use Rattle.std.specs.Prelude.{ℕ, Bool, true, false, cond, not, ◌&&◌, List, [], ◌∷◌, ◌++◌, Float, length}
+use Rattle.std.specs.Prelude.{ℕ, Bool, true, false, cond, not, ◌&&◌, List, [], ◌∷◌, ◌++◌, Float, length, Option, Some, None}
 use Rattle.std.specs.Float.{nan, inf, fin, binary64}
 use Rattle.std.specs.Float.Ieee.{of_bits}
 use Rattle.exact.specs.Float64.{◌⊗◌, ◌⊘◌, ◌>f◌, +0}
@@ -7,19 +7,14 @@ use Rattle.device.specs.Refusals.{Row, unless, Outcome, done, refused, ◌when�
 use Rattle.device.specs.Stages.{before}
 use Rattle.device.specs.declared.Card.{Card}
 use Rattle.device.specs.declared.Geometry.{Geometry}
-use Rattle.device.specs.declared.Given.{Given}
-use Rattle.device.specs.declared.Given.TheVariants.{Absent, Value}
 use Rattle.device.specs.declared.Mosfet1.{Mosfet1}
 use Rattle.device.specs.declared.Stage.{Stage}
-use Rattle.device.specs.declared.Stage.TheVariants as Stage
-use Rattle.keys.specs.Names.{meaning_of}
 use Rattle.keys.specs.Picks.{pick}
 use Rattle.keys.specs.declared.Key.TheVariants.{W, L, Nrd, Nrs, As, Ad, Ps, Pd}
 use Rattle.keys.specs.declared.Meaning.{Meaning}
 use Rattle.keys.specs.declared.Table.TheVariants as Table
-use Rattle.entries.specs.Entries.{Entry, entries_of, unknown_count, key_rows, list_after, Keyed}
-use Rattle.geometry.specs.declared.GeometryAnswer.{GeometryAnswer}
-use Rattle.geometry.specs.declared.GeometryAnswer.TheVariants.{Done, Refused}
+use Rattle.entries.specs.Entries.{Entry, entries_of, unknown_count, key_rows, list_after, settings_of}
+use Rattle.entries.specs.declared.Keyed.{Keyed}
 use Rattle.geometry.specs.declared.Sizes.{Sizes}
 
 -- ---- sizes
@@ -49,8 +44,7 @@ assigned s m v =
 
 -- a later key overrides
 unfoldable pub sizes_of : Sizes → List Entry → Sizes
-sizes_of s [] = s
-sizes_of s (e ∷ es) = sizes_of (assigned s (meaning_of Table.Geometry e.key) e.value) es
+sizes_of s es = settings_of assigned Table.Geometry s es
 
 -- ---- what follows from them
 
@@ -65,9 +59,9 @@ abbrev pub oxide_missing : Float → Float → Float → Float → Bool
 oxide_missing kf w l cox = (kf >f +0) && not (finite (w ⊗ l ⊗ cox) && (w ⊗ l ⊗ cox >f +0))
 
 -- a given resistance wins over the sheet's
-abbrev pub or_else : Given → Float → Float
-or_else Absent sheet = sheet
-or_else (Value v) sheet = v
+abbrev pub or_else : Option Float → Float → Float
+or_else None sheet = sheet
+or_else (Some v) sheet = v
 
 -- JS times the area where both are above 0, else IS
 abbrev pub saturation : Float → Float → Float → Float
@@ -129,11 +123,6 @@ geometry_rows d bytes offsets lengths values space =
     let s = sizes_given d bytes offsets lengths values in
     key_rows Table.Geometry bytes offsets lengths values space
     ++ ((5 when oxide_missing d.card.kf s.w s.l d.card.cox) ∷ (10 when before Stage.Scaled d.stage) ∷ [])
-
--- GeometryAnswer by its cases
-abbrev pub outcome_of_geometry : GeometryAnswer → Outcome Keyed
-outcome_of_geometry (Done d n) = done (record { device = d; unknown = n })
-outcome_of_geometry (Refused n) = refused n
 
 -- the device and the count of unknown keys, or the refusal
 unfoldable pub geometry_of : Mosfet1 → List ℕ → List ℕ → List ℕ → List Float → ℕ → Outcome Keyed

@@ -1,28 +1,23 @@
 // The geometry call (the Rust's `set_instance_params` and `validate` of mosfet1.rs).
 #![tactic(auto)]
 
-ghost use Rattle.std.specs.Prelude.{◌≡◌, false, ◌&&◌, length};
-ghost use Rattle.exact.specs.Float64.{◌>f◌, +0};
-ghost use Rattle.entries.specs.Entries.{entries_of, bad_pairs};
+ghost use Rattle.std.specs.Prelude.{◌≡◌, length};
+ghost use Rattle.device.specs.Refusals.{outcome};
 ghost use Rattle.keys.specs.declared.Meaning.TheVariants.{Sets};
 ghost use Rattle.geometry.specs.Geometry.{
   fresh_sizes,
   assigned,
-  sizes_of,
-  finite,
   oxide_missing,
-  or_else,
   saturation,
   geometry_record_of,
-  geometry_stage,
   sized_to,
-  outcome_of_geometry,
   geometry_of,
   geometry_list_of,
 };
 
-use device::{Card, Geometry, Given, Mosfet1, Stage};
-use entries::KeysAnswer;
+use device::{Card, Geometry, Mosfet1, Refusal, Stage};
+use entries::{Keyed, Settings};
+use key_pairs::LentKeys;
 use keys::{Key, Meaning, Table};
 
 // What the keys of a geometry call say.
@@ -36,13 +31,6 @@ pub struct Sizes {
     pub ad: f64,
     pub ps: f64,
     pub pd: f64,
-}
-
-// The device and the count of unknown keys, or the number of the refusal.
-#[derive(Clone, Copy)]
-pub enum GeometryAnswer {
-    Done(Mosfet1, usize),
-    Refused(u8),
 }
 
 // What a call that says nothing means: default sizes, the squares as they were.
@@ -61,138 +49,66 @@ fn fresh_sizes(nrd: f64, nrs: f64) -> Sizes
     }
 }
 
-// The sizes after a key that sets one of them; the card's keys set none.
-fn set_size(s: Sizes, key: Key, v: f64) -> Sizes
-    ensures { result ≡ assigned s (Sets key) v }
-{
-    let mut t = s;
-    match key {
-        Key::W => {
-            t.w = v;
-            t
+impl Sizes {
+    // Sets what a key sets; the card's keys set none.
+    fn set(&mut self, key: Key, v: f64)
+        ensures { self.new ≡ assigned self.old (Sets key) v }
+    {
+        match key {
+            Key::W => self.w = v,
+            Key::L => self.l = v,
+            Key::Nrd => self.nrd = v,
+            Key::Nrs => self.nrs = v,
+            Key::As => self.as_ = v,
+            Key::Ad => self.ad = v,
+            Key::Ps => self.ps = v,
+            Key::Pd => self.pd = v,
+            _ => {}
         }
-        Key::L => {
-            t.l = v;
-            t
-        }
-        Key::Nrd => {
-            t.nrd = v;
-            t
-        }
-        Key::Nrs => {
-            t.nrs = v;
-            t
-        }
-        Key::As => {
-            t.as_ = v;
-            t
-        }
-        Key::Ad => {
-            t.ad = v;
-            t
-        }
-        Key::Ps => {
-            t.ps = v;
-            t
-        }
-        Key::Pd => {
-            t.pd = v;
-            t
-        }
-        _ => t,
     }
 }
 
-// The sizes after one key more.
-fn assign(s: Sizes, m: Meaning, v: f64) -> Sizes
-    ensures { result ≡ assigned s m v }
-{
-    match m {
-        Meaning::Sets(key) => set_size(s, key, v),
-        Meaning::Tnom => s,
-        Meaning::Unread => s,
-        Meaning::Unknown => s,
-    }
-}
+impl Settings for Sizes {
+    ghost with_key = { assigned };
 
-// The sizes after all keys.
-fn read_sizes(
-    start: Sizes,
-    bytes: &[u8],
-    offsets: &[usize],
-    lengths: &[usize],
-    values: &[f64],
-) -> Sizes
-    requires { bad_pairs bytes.now offsets.now lengths.now values.now ≡ false }
-    ensures { result ≡ sizes_of start (entries_of bytes.now offsets.now lengths.now values.now) }
-{
-    let mut s = start;
-    let mut i = 0;
-    while i < offsets.len() {
-        let m = entries::meaning_at(Table::Geometry, bytes, offsets, lengths, i);
-        s = assign(s, m, values[i]);
-        i += 1;
+    fn assign(&mut self, m: Meaning, v: f64) {
+        if let Meaning::Sets(key) = m {
+            self.set(key, v);
+        }
     }
-    s
-}
-
-// Whether a number is finite and above 0.
-fn finite_above_0(x: f64) -> bool
-    ensures { result ≡ (finite x && (x >f +0)) }
-{
-    // The quotient is infinity.
-    if x > 0.0 { x < 1.0 / 0.0 } else { false }
 }
 
 // Row 5, `validate`.
+#[tactic(auto, using(crate::proofs::Geometry::finite_is))]
 fn oxide_missing(kf: f64, w: f64, l: f64, cox: f64) -> bool
     ensures { result ≡ oxide_missing kf w l cox }
 {
-    if kf > 0.0 {
-        let norm = w * l * cox;
-        return !finite_above_0(norm);
-    }
-    false
-}
-
-fn or_else(stated: Given, sheet: f64) -> f64
-    ensures { result ≡ or_else stated sheet }
-{
-    match stated {
-        Given::Absent => sheet,
-        Given::Value(v) => v,
-    }
+    let norm = w * l * cox;
+    kf > 0.0 && !(norm.is_finite() && norm > 0.0)
 }
 
 // A junction's saturation current: JS times its area where both are given, else IS.
 fn saturation(js: f64, area: f64, is: f64) -> f64
     ensures { result ≡ saturation js area is }
 {
-    if js > 0.0 {
-        if area > 0.0 {
-            return js * area;
-        }
+    if js > 0.0 && area > 0.0 {
+        js * area
+    } else {
+        is
     }
-    is
 }
 
 // The sizes, and what follows from them and the card.
 fn geometry_record(card: Card, s: Sizes) -> Geometry
     ensures { result ≡ geometry_record_of card s }
 {
-    let rd_card = card.rd_card;
-    let rs_card = card.rs_card;
-    let rd = or_else(rd_card, card.rsh * s.nrd);
-    let rs = or_else(rs_card, card.rsh * s.nrs);
-    let isat_bs = saturation(card.js, s.as_, card.is_bulk);
-    let isat_bd = saturation(card.js, s.ad, card.is_bulk);
     Geometry {
-        rd,
-        rs,
+        rd: card.rd_card.unwrap_or(card.rsh * s.nrd),
+        rs: card.rs_card.unwrap_or(card.rsh * s.nrs),
         nrd: s.nrd,
         nrs: s.nrs,
-        isat_bs,
-        isat_bd,
+        isat_bs: saturation(card.js, s.as_, card.is_bulk),
+        isat_bd: saturation(card.js, s.ad, card.is_bulk),
         w: s.w,
         l: s.l,
         w_over_l: s.w / s.l,
@@ -211,77 +127,39 @@ fn geometry_record(card: Card, s: Sizes) -> Geometry
     }
 }
 
-// A later stage stays.
-fn geometry_stage(stage: Stage) -> Stage
-    ensures { result ≡ geometry_stage stage }
-{
-    if device::before(stage, Stage::Geometry) {
-        Stage::Geometry
-    } else {
-        stage
-    }
-}
-
 fn sized(device: Mosfet1, s: Sizes) -> Mosfet1
     ensures { result ≡ sized_to device s }
 {
-    let card = device.card;
-    let geometry = geometry_record(card, s);
-    let scaled = device.scaled;
-    let terminals = device.terminals;
-    let point = device.point;
-    let charges = device.charges;
-    let histories = device.histories;
-    let disc = device.disc;
-    let old = device.stage;
-    let stage = geometry_stage(old);
     Mosfet1 {
-        card,
-        geometry,
-        scaled,
-        terminals,
-        point,
-        charges,
-        histories,
-        disc,
-        stage,
+        geometry: geometry_record(device.card, s),
+        // A later stage stays.
+        stage: device.stage.max(Stage::Geometry),
+        ..device
     }
 }
 
 // Sets the instance's sizes: `unknown` is lent for the places of the keys that are no sizes.
 pub fn set_instance_params(
     device: Mosfet1,
-    bytes: &[u8],
-    offsets: &[usize],
-    lengths: &[usize],
-    values: &[f64],
+    lent: LentKeys<'_>,
     unknown: &mut [usize],
-) -> GeometryAnswer
-    ensures { (outcome_of_geometry result ≡ geometry_of device bytes.now offsets.now lengths.now values.now (length unknown.old))
-        × (unknown.new ≡ geometry_list_of device bytes.now offsets.now lengths.now values.now unknown.old) }
+) -> Result<Keyed, Refusal>
+    ensures { (outcome result ≡ geometry_of device lent.entry.bytes.now lent.entry.offsets.now lent.entry.lengths.now lent.entry.values.now (length unknown.old))
+        × (unknown.new ≡ geometry_list_of device lent.entry.bytes.now lent.entry.offsets.now lent.entry.lengths.now lent.entry.values.now unknown.old) }
 {
-    let tested = entries::test_keys(
-        Table::Geometry,
-        bytes,
-        offsets,
-        lengths,
-        values,
-        unknown.len(),
-    );
-    match tested {
-        KeysAnswer::Refused(row) => GeometryAnswer::Refused(row),
-        KeysAnswer::Passed(count, _) => {
-            let start = fresh_sizes(device.geometry.nrd, device.geometry.nrs);
-            let s = read_sizes(start, bytes, offsets, lengths, values);
-            if oxide_missing(device.card.kf, s.w, s.l, device.card.cox) {
-                return GeometryAnswer::Refused(5);
-            }
-            let stage = device.stage;
-            if device::before(Stage::Scaled, stage) {
-                return GeometryAnswer::Refused(10);
-            }
-            entries::list_unknown(Table::Geometry, bytes, offsets, lengths, values, unknown);
-            GeometryAnswer::Done(sized(device, s), count)
-        }
+    let keys = lent.paired()?;
+    let read = entries::test_keys(Table::Geometry, keys, unknown.len())?;
+    let start = fresh_sizes(device.geometry.nrd, device.geometry.nrs);
+    let sizes = entries::read(Table::Geometry, start, keys);
+    if oxide_missing(device.card.kf, sizes.w, sizes.l, device.card.cox) {
+        return Err(Refusal::Oxide);
     }
+    if device::before(Stage::Scaled, device.stage) {
+        return Err(Refusal::Stage);
+    }
+    entries::list_unknown(Table::Geometry, keys, unknown);
+    Ok(Keyed {
+        device: sized(device, sizes),
+        unknown: read.unknown,
+    })
 }

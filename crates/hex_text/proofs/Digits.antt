@@ -1,61 +1,49 @@
 -- Reading digits one after another, as the loop does it.
-use Prim.Native.Nat.{ℕ, zero, suc, ◌+◌, ◌-◌, ◌*◌, ◌^◌, ◌≤◌, ◌<◌}
-use mathlib.Core.Path.{◌≡◌, refl, sym, ◌∙◌, ap, subst}
-use mathlib.Core.Bool.{Bool, true, false, cond}
-use mathlib.Core.List.{List, [], ◌∷◌}
-use native.Mathlib.Nat.{le_of_suc-le-suc, le_trans}
-use native.Mathlib.Omega.{arith}
-use lib.Dec.{ltb}
-use lib.Pow.{pow-add, pow_mono}
-use lib.ListN.{length, drop, get_or}
-use lib.Seq.{drop-cons}
+use Rattle.std.proofs.Common.{ℕ, ◌+◌, ◌-◌, ◌*◌, ◌^◌, ◌<◌, ◌≤◌, ◌≡◌, ◌∙◌, ap, List, length, take, drop, get_or, Some, None, arith, length-drop}
+use Rattle.std.specs.Prelude.{Option}
+use Rattle.std.specs.List.{slice_range}
+use Rattle.std.proofs.lemmas.List.{drop_more, take_all}
+use Rattle.std.proofs.lemmas.Bool.Decides.{nat_tests}
 use borrow.Author.Tests.{lt-ltb, le-ltb}
-use Rattle.hex_text.specs.declared.read.Bits.{Bits}
-use Rattle.hex_text.specs.declared.read.Bits.TheVariants.{Not}
-use Rattle.hex_text.specs.Hex.{digit_of, digits_after}
+use lib.Pow.{pow-add, pow_mono}
+use native.Mathlib.Nat.{le_trans}
+use Rattle.hex_text.specs.Hex.{digit_of, with_digit, digits_after, bits_at}
 
-cond_same : {A : Type 0} (b : Bool) (x : A) → cond b x x ≡ x
-cond_same true x = refl
-cond_same false x = refl
+-- a digit counts less than 16
+pub digit_small : (b d : ℕ) → digit_of b ≡ Some d → d < 16
+unfolding digit_of
+digit_small b d e = grind (arith, nat_tests)
 
--- too few bytes
-pub too_few : (k n : ℕ) (s : List ℕ) → length s < k → digits_after k n s ≡ Not
-unfolding digits_after
-too_few zero n s h = absurd (none h)
-  where
-    none : length s < 0 → ⊥
-    none h = omega arith
-too_few (suc k) n [] h = refl
-too_few (suc k) n (b ∷ s) h = ap (λ (r : Bits). cond (ltb (digit_of b) 16) r Not) (too_few k (n * 16 + digit_of b) s (le_of_suc-le-suc h)) ∙ cond_same (ltb (digit_of b) 16) Not
-
-module _ (s : List ℕ) (at i n : ℕ) (I : i < 16) (L : at + i < length s) where
-  abbrev byte : ℕ
-  byte = get_or s (at + i) 0
-
-  front : digits_after (16 - i) n (drop (at + i) s) ≡ digits_after (suc (16 - (i + 1))) n (byte ∷ drop (at + (i + 1)) s)
-  front =
-      ap (λ (k : ℕ). digits_after k n (drop (at + i) s)) (one_less i I)
-      ∙ ap (λ (l : List ℕ). digits_after (suc (16 - (i + 1))) n l) (drop-cons s (at + i) 0 L ∙ ap (λ (j : ℕ). byte ∷ drop j s) (next at i))
-    where
-      one_less : (i : ℕ) → i < 16 → 16 - i ≡ suc (16 - (i + 1))
-      one_less i h = omega arith
-
-      next : (a i : ℕ) → suc (a + i) ≡ a + (i + 1)
-      next a i = omega arith
-
-  -- a digit
-  pub goes_on : digit_of byte < 16 → digits_after (16 - i) n (drop (at + i) s) ≡ digits_after (16 - (i + 1)) (n * 16 + digit_of byte) (drop (at + (i + 1)) s)
+-- the digits of a list from i on, after those that make n
+module _ (s : List ℕ) (i n : ℕ) (I : i < length s) where
+  front : digits_after n (drop i s) ≡ with_digit (digit_of (get_or s i 0)) (λ (d : ℕ). digits_after (n * 16 + d) (drop (i + 1) s))
   unfolding digits_after
-  goes_on h = front ∙ ap (λ (t : Bool). cond t (digits_after (16 - (i + 1)) (n * 16 + digit_of byte) (drop (at + (i + 1)) s)) Not) (lt-ltb _ _ h)
+  front = ap (digits_after n) (drop_more s i 0 I)
 
-  -- no digit
-  pub stops : 16 ≤ digit_of byte → digits_after (16 - i) n (drop (at + i) s) ≡ Not
-  unfolding digits_after
-  stops h = front ∙ ap (λ (t : Bool). cond t (digits_after (16 - (i + 1)) (n * 16 + digit_of byte) (drop (at + (i + 1)) s)) Not) (le-ltb _ _ h)
+  pub goes_on : (d : ℕ) → digit_of (get_or s i 0) ≡ Some d → digits_after n (drop i s) ≡ digits_after (n * 16 + d) (drop (i + 1) s)
+  unfolding with_digit
+  goes_on d e = front ∙ ap (λ (x : Option ℕ). with_digit x (λ (d : ℕ). digits_after (n * 16 + d) (drop (i + 1) s))) e
+
+  pub stops : digit_of (get_or s i 0) ≡ None → digits_after n (drop i s) ≡ None
+  unfolding with_digit
+  stops e = front ∙ ap (λ (x : Option ℕ). with_digit x (λ (d : ℕ). digits_after (n * 16 + d) (drop (i + 1) s))) e
+
+-- the sixteen bytes from `at` on, and too few of them
+module _ (s : List ℕ) (at : ℕ) where
+  pub too_few : length s < at + 16 → bits_at s at ≡ None
+  unfolding bits_at
+  too_few h = simp (lt-ltb (length s) (at + 16) h)
+
+  pub enough : at + 16 ≤ length s → bits_at s at ≡ digits_after 0 (take 16 (drop at s))
+  unfolding bits_at
+  enough h = simp (le-ltb (length s) (at + 16) h)
+
+  pub rest : (r : List ℕ) → at ≤ length s → r ≡ slice_range s at (length s) → r ≡ drop at s
+  rest r h e = e ∙ take_all (length s - at) (drop at s) (omega (arith, length-drop at s))
 
 -- i digits make a number below 16 ^ i
 pub more : (n d i : ℕ) → n < 2 ^ (4 * i) → d < 16 → n * 16 + d < 2 ^ (4 * (i + 1))
-more n d i h g = subst (λ (p : ℕ). n * 16 + d < p) (sym (ap (λ (e : ℕ). 2 ^ e) (times i) ∙ pow-add 2 (4 * i) 4)) (plain (2 ^ (4 * i)) h)
+more n d i h g = rw (times i, pow-add 2 (4 * i) 4) (plain (2 ^ (4 * i)) h)
   where
     times : (i : ℕ) → 4 * (i + 1) ≡ 4 * i + 4
     times i = omega arith

@@ -27,6 +27,10 @@ pub record Written (out : List ℕ) (at : ℕ) (s : List ℕ) (end : ℕ) (resul
   pub ends : end ≡ end_of (length out) at s
   pub holds : result ≡ text_at out at s
 
+pub one_byte : {out mid : List ℕ} {n m b : ℕ} → m ≡ after (length out) n → mid ≡ set out n b → Written out n (b ∷ []) m mid
+unfolding end_of text_at
+one_byte e h = record { ends = e; holds = h }
+
 pub joined : {out mid result : List ℕ} {at n end : ℕ} {s t : List ℕ} → Written out at s n mid → Written mid n t end result → Written out at (s ++ t) end result
 joined {out} {mid} {result} {at} {n} {end} {s} {t} v w = record {
   ends = w.ends ∙ ap₂ (λ (l m : ℕ). end_of l m t) (ap length v.holds ∙ length_text out at s) v.ends ∙ sym (end_append (length out) at s t);

@@ -4,5 +4,5 @@
 mod read;
 mod write;
 
-pub use read::{Bits, bits_at, digit, float_of};
+pub use read::{bits_at, digit, float_of};
 pub use write::{put_number, put_text};

@@ -4,53 +4,28 @@ ghost use Rattle.std.specs.Float.{binary64};
 ghost use Rattle.std.specs.Float.Ieee.{of_bits};
 ghost use Rattle.hex_text.specs.Hex.{digit_of, bits_at};
 
-// Sixteen digits' bits, or no such digits.
-#[derive(Clone, Copy)]
-pub enum Bits {
-    Is(u64),
-    Not,
-}
-
-// What a digit's byte counts, 16 where it is none.
-pub fn digit(b: u8) -> u64
+// What a digit's byte counts.
+#[tactic(auto, using(std::proofs::lemmas::Bool::Decides::nat_tests), unfolding(crate::specs::Hex::digit_of))]
+pub fn digit(b: u8) -> Option<u64>
     ensures { result ≡ digit_of b }
 {
-    if b < 48 {
-        return 16;
+    match b {
+        b'0'..=b'9' => Some((b - b'0') as u64),
+        b'a'..=b'f' => Some((b - b'a') as u64 + 10),
+        _ => None,
     }
-    if b < 58 {
-        return (b - 48) as u64;
-    }
-    if b < 97 {
-        return 16;
-    }
-    if b < 103 {
-        return (b - 87) as u64;
-    }
-    16
 }
 
 // The bits that the sixteen bytes from at on write.
-pub fn bits_at(s: &[u8], at: usize) -> Bits
+pub fn bits_at(s: &[u8], at: usize) -> Option<u64>
     ensures { result ≡ bits_at s.now at }
 {
-    if s.len() < 16 {
-        return Bits::Not;
-    }
-    if s.len() - 16 < at {
-        return Bits::Not;
-    }
+    let digits = s.get(at..)?.get(..16)?;
     let mut n = 0u64;
-    let mut i = 0;
-    while i < 16 {
-        let d = digit(s[at + i]);
-        if 16 <= d {
-            return Bits::Not;
-        }
-        n = n * 16 + d;
-        i += 1;
+    for &b in digits {
+        n = n * 16 + digit(b)?;
     }
-    Bits::Is(n)
+    Some(n)
 }
 
 // The float that the bits write, any pattern of a NaN too.
@@ -59,10 +34,8 @@ pub fn float_of(bits: u64) -> f64
 {
     let field = bits % 0x8000_0000_0000_0000 / 0x10_0000_0000_0000;
     let digits = bits % 0x10_0000_0000_0000;
-    if field == 2047 {
-        if digits != 0 {
-            return 0.0 / 0.0;
-        }
+    if field == 2047 && digits != 0 {
+        return f64::NAN;
     }
     f64::from_bits(bits)
 }

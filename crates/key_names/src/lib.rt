@@ -1,169 +1,129 @@
-// The names of keys: a key's bytes are compared with all names at once, as one number.
+// The names of keys: a key is compared with one name after another, as the lists of names have them.
 #![tactic(auto)]
 
-ghost use Rattle.std.specs.Prelude.{◌≡◌, ◌≤◌, length};
-ghost use Rattle.keys.specs.Names.{lower_of, card_names, geometry_names, meaning_of};
-ghost use Rattle.key_names.specs.Packing.{packed_of, numbered};
+ghost use Rattle.std.specs.Prelude.{◌≡◌};
+ghost use Rattle.std.specs.Str.{str_eq_ignore_ascii_case};
+ghost use Rattle.keys.specs.Names.{card_names, geometry_names, meaning_of};
+ghost use Rattle.key_names.specs.Spelling.{found};
 
 use keys::{Key, Meaning, Table};
 
-// A byte in ASCII lower case.
-fn lower(b: u8) -> u64
-    ensures { result ≡ lower_of b }
+// Whether a key is a name, ASCII case ignored.
+fn is(key: &[u8], name: &[u8]) -> bool
+    ensures { result ≡ str_eq_ignore_ascii_case key.now name.now }
 {
-    let wide = b as u64;
-    if 65 <= wide {
-        if wide <= 90 {
-            return wide + 32;
-        }
-    }
-    wide
+    key.eq_ignore_ascii_case(name)
 }
 
-// A key's bytes as the digits of one number.
-fn packed(key: &[u8]) -> u64
-    requires { length key.now ≤ 7 }
-    ensures { result ≡ packed_of key.now }
+// The card's key of a name.
+#[tactic(auto, unfolding(crate::specs::Spelling::found, crate::specs::Spelling::bytes_of, keys::specs::Names::card_names))]
+fn card_key(key: &[u8]) -> Meaning
+    ensures { result ≡ found card_names key.now }
 {
-    let mut number: u64 = 1;
-    let mut i = key.len();
-    while 0 < i {
-        i -= 1;
-        number = lower(key[i]) + 256 * number;
-    }
-    number
-}
-
-// The card's key with a number.
-fn card_key(number: u64) -> Meaning
-    ensures { result ≡ numbered card_names number }
-{
-    match number {
-        // vto
-        0x16f7476 => Meaning::Sets(Key::Vto),
-        // vth0
-        0x130687476 => Meaning::Sets(Key::Vto),
-        // vtho
-        0x16f687476 => Meaning::Sets(Key::Vto),
-        // kp
-        0x1706b => Meaning::Sets(Key::Kp),
-        // uo
-        0x16f75 => Meaning::Sets(Key::Uo),
-        // u0
-        0x13075 => Meaning::Sets(Key::Uo),
-        // is
-        0x17369 => Meaning::Sets(Key::Is),
-        // js
-        0x1736a => Meaning::Sets(Key::Js),
-        // lambda
-        0x16164626d616c => Meaning::Sets(Key::Lambda),
-        // gamma
-        0x1616d6d6167 => Meaning::Sets(Key::Gamma),
-        // phi
-        0x1696870 => Meaning::Sets(Key::Phi),
-        // rd
-        0x16472 => Meaning::Sets(Key::Rd),
-        // rs
-        0x17372 => Meaning::Sets(Key::Rs),
-        // rsh
-        0x1687372 => Meaning::Sets(Key::Rsh),
-        // kf
-        0x1666b => Meaning::Sets(Key::Kf),
-        // af
-        0x16661 => Meaning::Sets(Key::Af),
-        // tnom
-        0x16d6f6e74 => Meaning::Tnom,
-        // cgso
-        0x16f736763 => Meaning::Sets(Key::Cgso),
-        // cgdo
-        0x16f646763 => Meaning::Sets(Key::Cgdo),
-        // cgbo
-        0x16f626763 => Meaning::Sets(Key::Cgbo),
-        // cox
-        0x1786f63 => Meaning::Sets(Key::Cox),
-        // tox
-        0x1786f74 => Meaning::Sets(Key::Tox),
-        // cj
-        0x16a63 => Meaning::Sets(Key::Cj),
-        // cjsw
-        0x177736a63 => Meaning::Sets(Key::Cjsw),
-        // pb
-        0x16270 => Meaning::Sets(Key::Pb),
-        // mj
-        0x16a6d => Meaning::Sets(Key::Mj),
-        // mjsw
-        0x177736a6d => Meaning::Sets(Key::Mjsw),
-        // fc
-        0x16366 => Meaning::Sets(Key::Fc),
-        // nsub
-        0x16275736e => Meaning::Unread,
-        // nss
-        0x173736e => Meaning::Unread,
-        // nfs
-        0x173666e => Meaning::Unread,
-        // tpg
-        0x1677074 => Meaning::Unread,
-        // ucrit
-        0x17469726375 => Meaning::Unread,
-        // uexp
-        0x170786575 => Meaning::Unread,
-        // utra
-        0x161727475 => Meaning::Unread,
-        // vmax
-        0x178616d76 => Meaning::Unread,
-        // xj
-        0x16a78 => Meaning::Unread,
-        // ld
-        0x1646c => Meaning::Unread,
-        // delta
-        0x161746c6564 => Meaning::Unread,
-        // theta
-        0x16174656874 => Meaning::Unread,
-        // eta
-        0x1617465 => Meaning::Unread,
-        // kappa
-        0x1617070616b => Meaning::Unread,
-        // php
-        0x1706870 => Meaning::Unread,
-        _ => Meaning::Unknown,
+    if is(key, b"vto") || is(key, b"vth0") || is(key, b"vtho") {
+        Meaning::Sets(Key::Vto)
+    } else if is(key, b"kp") {
+        Meaning::Sets(Key::Kp)
+    } else if is(key, b"uo") || is(key, b"u0") {
+        Meaning::Sets(Key::Uo)
+    } else if is(key, b"is") {
+        Meaning::Sets(Key::Is)
+    } else if is(key, b"js") {
+        Meaning::Sets(Key::Js)
+    } else if is(key, b"lambda") {
+        Meaning::Sets(Key::Lambda)
+    } else if is(key, b"gamma") {
+        Meaning::Sets(Key::Gamma)
+    } else if is(key, b"phi") {
+        Meaning::Sets(Key::Phi)
+    } else if is(key, b"rd") {
+        Meaning::Sets(Key::Rd)
+    } else if is(key, b"rs") {
+        Meaning::Sets(Key::Rs)
+    } else if is(key, b"rsh") {
+        Meaning::Sets(Key::Rsh)
+    } else if is(key, b"kf") {
+        Meaning::Sets(Key::Kf)
+    } else if is(key, b"af") {
+        Meaning::Sets(Key::Af)
+    } else if is(key, b"tnom") {
+        Meaning::Tnom
+    } else if is(key, b"cgso") {
+        Meaning::Sets(Key::Cgso)
+    } else if is(key, b"cgdo") {
+        Meaning::Sets(Key::Cgdo)
+    } else if is(key, b"cgbo") {
+        Meaning::Sets(Key::Cgbo)
+    } else if is(key, b"cox") {
+        Meaning::Sets(Key::Cox)
+    } else if is(key, b"tox") {
+        Meaning::Sets(Key::Tox)
+    } else if is(key, b"cj") {
+        Meaning::Sets(Key::Cj)
+    } else if is(key, b"cjsw") {
+        Meaning::Sets(Key::Cjsw)
+    } else if is(key, b"pb") {
+        Meaning::Sets(Key::Pb)
+    } else if is(key, b"mj") {
+        Meaning::Sets(Key::Mj)
+    } else if is(key, b"mjsw") {
+        Meaning::Sets(Key::Mjsw)
+    } else if is(key, b"fc") {
+        Meaning::Sets(Key::Fc)
+    } else if is(key, b"nsub")
+        || is(key, b"nss")
+        || is(key, b"nfs")
+        || is(key, b"tpg")
+        || is(key, b"ucrit")
+        || is(key, b"uexp")
+        || is(key, b"utra")
+        || is(key, b"vmax")
+        || is(key, b"xj")
+        || is(key, b"ld")
+        || is(key, b"delta")
+        || is(key, b"theta")
+        || is(key, b"eta")
+        || is(key, b"kappa")
+        || is(key, b"php")
+    {
+        Meaning::Unread
+    } else {
+        Meaning::Unknown
     }
 }
 
-// The geometry call's key with a number.
-fn geometry_key(number: u64) -> Meaning
-    ensures { result ≡ numbered geometry_names number }
+// The geometry call's key of a name.
+#[tactic(auto, unfolding(crate::specs::Spelling::found, crate::specs::Spelling::bytes_of, keys::specs::Names::geometry_names))]
+fn geometry_key(key: &[u8]) -> Meaning
+    ensures { result ≡ found geometry_names key.now }
 {
-    match number {
-        // w
-        0x177 => Meaning::Sets(Key::W),
-        // l
-        0x16c => Meaning::Sets(Key::L),
-        // nrd
-        0x164726e => Meaning::Sets(Key::Nrd),
-        // nrs
-        0x173726e => Meaning::Sets(Key::Nrs),
-        // as
-        0x17361 => Meaning::Sets(Key::As),
-        // ad
-        0x16461 => Meaning::Sets(Key::Ad),
-        // ps
-        0x17370 => Meaning::Sets(Key::Ps),
-        // pd
-        0x16470 => Meaning::Sets(Key::Pd),
-        _ => Meaning::Unknown,
+    if is(key, b"w") {
+        Meaning::Sets(Key::W)
+    } else if is(key, b"l") {
+        Meaning::Sets(Key::L)
+    } else if is(key, b"nrd") {
+        Meaning::Sets(Key::Nrd)
+    } else if is(key, b"nrs") {
+        Meaning::Sets(Key::Nrs)
+    } else if is(key, b"as") {
+        Meaning::Sets(Key::As)
+    } else if is(key, b"ad") {
+        Meaning::Sets(Key::Ad)
+    } else if is(key, b"ps") {
+        Meaning::Sets(Key::Ps)
+    } else if is(key, b"pd") {
+        Meaning::Sets(Key::Pd)
+    } else {
+        Meaning::Unknown
     }
 }
 
-// What a key means to a call. No name has more than seven bytes.
+// What a key means to a call.
 pub fn meaning_of(table: Table, key: &[u8]) -> Meaning
     ensures { result ≡ meaning_of table key.now }
 {
-    if 7 < key.len() {
-        return Meaning::Unknown;
-    }
-    let number = packed(key);
     match table {
-        Table::Card => card_key(number),
-        Table::Geometry => geometry_key(number),
+        Table::Card => card_key(key),
+        Table::Geometry => geometry_key(key),
     }
 }

@@ -1,5 +1,5 @@
 -- A later key overrides: the value of a parameter after one key more.
-use Rattle.std.specs.Prelude.{ℕ, Bool, false, cond, ◌||◌, eqb, Float}
+use Rattle.std.specs.Prelude.{ℕ, Bool, false, cond, eqb, Float, Option, Some}
 use Rattle.keys.specs.declared.Key.{Key}
 use Rattle.keys.specs.declared.Key.TheVariants.{Vto, Kp, Uo, Is, Js, Lambda, Gamma, Phi, Rd, Rs, Rsh, Kf, Af, Cgso, Cgdo, Cgbo, Cox, Tox, Cj, Cjsw, Pb, Mj, Mjsw, Fc, W, L, Nrd, Nrs, As, Ad, Ps, Pd}
 use Rattle.keys.specs.declared.Meaning.{Meaning}
@@ -50,6 +50,6 @@ is_set k Unknown = false
 abbrev pub pick : Key → Float → Meaning → Float → Float
 pick k old m v = cond (is_set k m) v old
 
--- whether the parameter k is given
-abbrev pub pick_given : Key → Bool → Meaning → Bool
-pick_given k old m = is_set k m || old
+-- the parameter k that a card may leave out
+abbrev pub pick_option : Key → Option Float → Meaning → Float → Option Float
+pick_option k old m v = cond (is_set k m) (Some v) old

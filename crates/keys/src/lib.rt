@@ -66,7 +66,7 @@ pub enum Range {
     ZeroOr(f64, f64),
 }
 
-// The table of ranges.
+// The table of ranges, a line for each parameter as the definition has it.
 fn range_of(key: Key) -> Range
     ensures { result ≡ range_of key }
 {
@@ -112,13 +112,7 @@ fn outside_range(range: Range, v: f64) -> bool
 {
     match range {
         Range::Within(least, greatest) => !device::within(v, least, greatest),
-        Range::ZeroOr(least, greatest) => {
-            if v == 0.0 {
-                false
-            } else {
-                !device::within(v, least, greatest)
-            }
-        }
+        Range::ZeroOr(least, greatest) => !(v == 0.0 || device::within(v, least, greatest)),
     }
 }
 
@@ -128,9 +122,7 @@ pub fn outside(m: Meaning, v: f64) -> bool
 {
     match m {
         Meaning::Sets(key) => outside_range(range_of(key), v),
-        Meaning::Tnom => false,
-        Meaning::Unread => false,
-        Meaning::Unknown => false,
+        Meaning::Tnom | Meaning::Unread | Meaning::Unknown => false,
     }
 }
 
@@ -139,20 +131,13 @@ pub fn tnom_outside(m: Meaning, v: f64) -> bool
     ensures { result ≡ tnom_outside m v }
 {
     match m {
-        Meaning::Sets(_) => false,
         Meaning::Tnom => device::outside_temperatures(temperature::to_kelvin(Celsius(v))),
-        Meaning::Unread => false,
-        Meaning::Unknown => false,
+        Meaning::Sets(_) | Meaning::Unread | Meaning::Unknown => false,
     }
 }
 
 pub fn is_unknown(m: Meaning) -> bool
     ensures { result ≡ is_unknown m }
 {
-    match m {
-        Meaning::Sets(_) => false,
-        Meaning::Tnom => false,
-        Meaning::Unread => false,
-        Meaning::Unknown => true,
-    }
+    matches!(m, Meaning::Unknown)
 }

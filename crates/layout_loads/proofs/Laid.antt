@@ -8,7 +8,7 @@ use lib.ListN.{length}
 use lib.Dec.{eqb, ltb}
 use borrow.Author.Tests.{eq-eqb, lt-leb, ltb-true, ltb-false}
 use Rattle.pattern.specs.Pattern.{well_formed}
-use Rattle.pattern.specs.declared.Found.{Found}
+use Rattle.std.specs.Prelude.{Option}
 use Rattle.device.specs.Nodes.{node_beyond, any_node_beyond}
 use Rattle.device.specs.declared.NodeId.{NodeId}
 use Rattle.device.specs.declared.NodeId.TheVariants.{Ground, At}
@@ -104,7 +104,7 @@ module _ (ks : List ℕ) (n : ℕ) (found_in : (r c : ℕ) → r < n → c < row
 module _ (t : Terminals) where
   cell_there_lem : (n r c : ℕ) → r < n → c < row_width → holds (cell_number r c) (cells_of t) ≡ true → there (place_of (pattern_in (cells_of t) n) (At r) (At c)) ≡ true
   unfolding there place_of found_place pattern_in
-  cell_there_lem n r c h k e = ap (λ (f : Found). there (found_place f)) (found (cells_of t) (cells_rise t) n r c h k (stands (cell_number r c) (cells_of t) e))
+  cell_there_lem n r c h k e = ap (λ (f : Option ℕ). there (found_place f)) (found (cells_of t) (cells_rise t) n r c h k (stands (cell_number r c) (cells_of t) e))
 
   -- every cell that the device may load is in the pattern
   pub pattern_holds : any_node_beyond row_width t ≡ false → positions_there (pattern_of t) (positions_of t) ≡ true

@@ -17,40 +17,31 @@ ghost use Rattle.resolved_rows.specs.ByNumbers.{pairs_stored, pair_stored, all_b
 ghost use Rattle.load_resolved.specs.ByNumbers.{place_between, channel_pairs, add_channel, add_row, add_pair};
 
 use device::{Mosfet1, OperatingPoint};
-use places::Nodes;
+use places::{Nodes, SKIPPED};
 
-// The number of ground among the nodes, and of a place that is skipped.
-const SKIPPED: usize = 18446744073709551615;
-
+// Ground's number is that of a place that is skipped.
+#[tactic(auto, unfolding(crate::specs::ByNumbers::place_between))]
 fn place_between(row: usize, column: usize, place: usize) -> usize
     ensures { result ≡ place_between row column place }
 {
-    if row == SKIPPED {
-        return SKIPPED;
+    if row == SKIPPED || column == SKIPPED {
+        SKIPPED
+    } else {
+        place
     }
-    if column == SKIPPED {
-        return SKIPPED;
-    }
-    place
 }
 
 // One of two nodes is ground.
 pub fn either_ground(a: usize, b: usize) -> bool
     ensures { result ≡ (eqb a skipped_number || eqb b skipped_number) }
 {
-    if a == SKIPPED {
-        return true;
-    }
-    b == SKIPPED
+    a == SKIPPED || b == SKIPPED
 }
 
 fn any_ground(a: usize, b: usize, c: usize, d: usize) -> bool
     ensures { result ≡ ((eqb a skipped_number || eqb b skipped_number) || (eqb c skipped_number || eqb d skipped_number)) }
 {
-    if either_ground(a, b) {
-        return true;
-    }
-    either_ground(c, d)
+    either_ground(a, b) || either_ground(c, d)
 }
 
 // A value added at a place that is known to be among the values: the rows were asked for before the first write.
@@ -58,7 +49,7 @@ pub fn add_known(xs: &mut [f64], place: usize, x: f64)
     requires { place < length xs.old }
     ensures { xs.new ≡ add_at xs.old place x }
 {
-    xs[place] = xs[place] + x;
+    xs[place] += x;
 }
 
 // A value added at a stored place, unless an end of its position is ground.
@@ -93,9 +84,7 @@ fn row_by_cell(
 fn add_channel_by_cell(xs: &mut [f64], n: Nodes, cells: &[usize; 37], p: OperatingPoint)
     ensures { xs.new ≡ add_channel n cells.now p xs.old }
 {
-    let gm = p.gm;
-    let gds = p.gds;
-    let gmbs = p.gmbs;
+    let OperatingPoint { gm, gds, gmbs, .. } = p;
     let gms = gm + gds + gmbs;
     row_by_cell(xs, n.drain, n, cells, 8, gm, gds, -gms, gmbs);
     row_by_cell(xs, n.source, n, cells, 12, -gm, -gds, gms, -gmbs);
@@ -116,9 +105,7 @@ fn add_channel_plain(xs: &mut [f64], cells: &[usize; 37], p: OperatingPoint)
     requires { all_below (length xs.old) (numbers_from cells.now 8 8) ≡ true }
     ensures { xs.new ≡ add_all xs.old (numbers_from cells.now 8 8) (channel_values p []) }
 {
-    let gm = p.gm;
-    let gds = p.gds;
-    let gmbs = p.gmbs;
+    let OperatingPoint { gm, gds, gmbs, .. } = p;
     let gms = gm + gds + gmbs;
     row_plain(xs, cells, 8, gm, gds, -gms, gmbs);
     row_plain(xs, cells, 12, -gm, -gds, gms, -gmbs);
@@ -136,21 +123,22 @@ fn add_channel(xs: &mut [f64], n: Nodes, cells: &[usize; 37], p: OperatingPoint)
     }
 }
 
-// A conductance between the nodes a and b, in the order of `jac_pairs`. Ground is asked for once; where there is none, the places are known to be there.
-fn add_pair(xs: &mut [f64], a: usize, b: usize, g: f64, aa: usize, ab: usize, ba: usize, bb: usize)
-    requires { pair_stored (length xs.old) a b aa ab ba bb ≡ true }
-    ensures { xs.new ≡ add_pair a b g aa ab ba bb xs.old }
+// A conductance between the nodes a and b at the four places from k on, in the order of `jac_pairs`. Reading the places here keeps the
+// callers short. Ground is asked for once; where there is none, the places are known to be there.
+fn add_pair(xs: &mut [f64], a: usize, b: usize, g: f64, cells: &[usize; 37], k: usize)
+    requires { (k + 3 < 37) × (pair_stored (length xs.old) a b (get_or cells.now k 0) (get_or cells.now (k + 1) 0) (get_or cells.now (k + 2) 0) (get_or cells.now (k + 3) 0) ≡ true) }
+    ensures { xs.new ≡ add_pair a b g (get_or cells.now k 0) (get_or cells.now (k + 1) 0) (get_or cells.now (k + 2) 0) (get_or cells.now (k + 3) 0) xs.old }
 {
     if either_ground(a, b) {
-        add_cell(xs, a, a, aa, g);
-        add_cell(xs, a, b, ab, -g);
-        add_cell(xs, b, a, ba, -g);
-        add_cell(xs, b, b, bb, g);
+        add_cell(xs, a, a, cells[k], g);
+        add_cell(xs, a, b, cells[k + 1], -g);
+        add_cell(xs, b, a, cells[k + 2], -g);
+        add_cell(xs, b, b, cells[k + 3], g);
     } else {
-        add_known(xs, aa, g);
-        add_known(xs, ab, -g);
-        add_known(xs, ba, -g);
-        add_known(xs, bb, g);
+        add_known(xs, cells[k], g);
+        add_known(xs, cells[k + 1], -g);
+        add_known(xs, cells[k + 2], -g);
+        add_known(xs, cells[k + 3], g);
     }
 }
 
@@ -185,79 +173,30 @@ fn add_zero(xs: &mut [f64], place: usize)
 }
 
 // A conductance of zero: of the four additions the two of -0 change nothing, nor does the last where it is at the place of the first.
-fn add_no_conductance(
-    xs: &mut [f64],
-    a: usize,
-    b: usize,
-    aa: usize,
-    ab: usize,
-    ba: usize,
-    bb: usize,
-)
-    ensures { xs.new ≡ add_pair a b +0 aa ab ba bb xs.old }
+fn add_no_conductance(xs: &mut [f64], a: usize, b: usize, cells: &[usize; 37], k: usize)
+    requires { k + 3 < 37 }
+    ensures { xs.new ≡ add_pair a b +0 (get_or cells.now k 0) (get_or cells.now (k + 1) 0) (get_or cells.now (k + 2) 0) (get_or cells.now (k + 3) 0) xs.old }
 {
-    let first = place_between(a, a, aa);
-    let last = place_between(b, b, bb);
+    let first = place_between(a, a, cells[k]);
+    let last = place_between(b, b, cells[k + 3]);
     add_zero(xs, first);
-    keep(xs, place_between(a, b, ab));
-    keep(xs, place_between(b, a, ba));
+    keep(xs, place_between(a, b, cells[k + 1]));
+    keep(xs, place_between(b, a, cells[k + 2]));
     if first != last {
         add_zero(xs, last);
     }
 }
 
 // A series resistance; most devices have none.
-fn add_series(
-    xs: &mut [f64],
-    a: usize,
-    b: usize,
-    r: f64,
-    aa: usize,
-    ab: usize,
-    ba: usize,
-    bb: usize,
-)
-    requires { pair_stored (length xs.old) a b aa ab ba bb ≡ true }
-    ensures { xs.new ≡ add_pair a b (series_of r) aa ab ba bb xs.old }
-{
-    if r > 0.0 {
-        add_pair(xs, a, b, 1.0 / r, aa, ab, ba, bb);
-    } else {
-        add_no_conductance(xs, a, b, aa, ab, ba, bb);
-    }
-}
-
-// A conductance at the four places from k on. Reading them here keeps the caller short.
-fn pair_at(xs: &mut [f64], a: usize, b: usize, g: f64, cells: &[usize; 37], k: usize)
-    requires { (k + 3 < 37) × (pair_stored (length xs.old) a b (get_or cells.now k 0) (get_or cells.now (k + 1) 0) (get_or cells.now (k + 2) 0) (get_or cells.now (k + 3) 0) ≡ true) }
-    ensures { xs.new ≡ add_pair a b g (get_or cells.now k 0) (get_or cells.now (k + 1) 0) (get_or cells.now (k + 2) 0) (get_or cells.now (k + 3) 0) xs.old }
-{
-    add_pair(
-        xs,
-        a,
-        b,
-        g,
-        cells[k],
-        cells[k + 1],
-        cells[k + 2],
-        cells[k + 3],
-    );
-}
-
-fn series_at(xs: &mut [f64], a: usize, b: usize, r: f64, cells: &[usize; 37], k: usize)
+fn add_series(xs: &mut [f64], a: usize, b: usize, r: f64, cells: &[usize; 37], k: usize)
     requires { (k + 3 < 37) × (pair_stored (length xs.old) a b (get_or cells.now k 0) (get_or cells.now (k + 1) 0) (get_or cells.now (k + 2) 0) (get_or cells.now (k + 3) 0) ≡ true) }
     ensures { xs.new ≡ add_pair a b (series_of r) (get_or cells.now k 0) (get_or cells.now (k + 1) 0) (get_or cells.now (k + 2) 0) (get_or cells.now (k + 3) 0) xs.old }
 {
-    add_series(
-        xs,
-        a,
-        b,
-        r,
-        cells[k],
-        cells[k + 1],
-        cells[k + 2],
-        cells[k + 3],
-    );
+    if r > 0.0 {
+        add_pair(xs, a, b, 1.0 / r, cells, k);
+    } else {
+        add_no_conductance(xs, a, b, cells, k);
+    }
 }
 
 // `load_jacobian`: the channel, the series resistances, the junctions.
@@ -265,20 +204,11 @@ fn add_jacobian(xs: &mut [f64], n: Nodes, cells: &[usize; 37], d: Mosfet1)
     requires { pairs_stored (length xs.old) (jac_pairs_of (terminals_at n)) (numbers_from cells.now 8 24) ≡ true }
     ensures { xs.new ≡ add_stored (paired (jac_pairs_of (terminals_at n)) (jac_values_of d)) (numbers_from cells.now 8 24) xs.old }
 {
-    let rd = d.geometry.rd;
-    let rs = d.geometry.rs;
-    let drain = n.drain;
-    let source = n.source;
-    let bulk = n.bulk;
-    let drain_ext = n.drain_ext;
-    let source_ext = n.source_ext;
-    let gbs = d.point.gbs;
-    let gbd = d.point.gbd;
     add_channel(xs, n, cells, d.point);
-    series_at(xs, drain_ext, drain, rd, cells, 16);
-    series_at(xs, source_ext, source, rs, cells, 20);
-    pair_at(xs, bulk, source, gbs, cells, 24);
-    pair_at(xs, bulk, drain, gbd, cells, 28);
+    add_series(xs, n.drain_ext, n.drain, d.geometry.rd, cells, 16);
+    add_series(xs, n.source_ext, n.source, d.geometry.rs, cells, 20);
+    add_pair(xs, n.bulk, n.source, d.point.gbs, cells, 24);
+    add_pair(xs, n.bulk, n.drain, d.point.gbd, cells, 28);
 }
 
 // `load_jacobian` and `load_residual`. The rows were asked for before, so every place that counts is there.

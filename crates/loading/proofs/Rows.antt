@@ -11,7 +11,10 @@ use borrow.Author.Tests.{eqb-true, eq-eqb, ne_eqb, le-ltb, ltb-false, leb-false,
 use Rattle.pattern.specs.Pattern.{well_formed, pairs_fit}
 use Rattle.pattern.proofs.Rows.{and_left}
 use Rattle.device.specs.Nodes.{node_beyond, any_node_beyond}
-use Rattle.device.specs.Refusals.{Outcome, done, refused}
+use Rattle.device.specs.Refusals.{number_of, Outcome, done, refused}
+use Rattle.device.specs.declared.Refusal.{Refusal}
+use Rattle.device.specs.declared.Refusal.TheVariants as Refused
+use Rattle.device.specs.declared.Refusal.TheVariants.{KeyPairs, KeyByte, UnknownKeys, KeyValue, Oxide, Temperature, Potential, Node, Voltage, Step, MissingCell, Run, Tag}
 use Rattle.device.specs.Stages.{stage_number, unbound, unevaluated}
 use Rattle.device.specs.declared.NodeId.{NodeId}
 use Rattle.device.specs.declared.NodeId.TheVariants.{Ground, At}
@@ -25,6 +28,24 @@ use Rattle.places.specs.Places.{skipped_number, index_of, node_at, nodes_of, ter
 use Rattle.assembly.specs.Assembly.{Pattern, matrix_contributions, source_contributions, all_there, Assembled}
 use Rattle.loading.specs.Loading.{nodes_outside, alpha_outside, branches_of, jacobian_contributions, rhs_contributions, load_of, if_done, Loaded, early_row}
 use Rattle.loading.specs.declared.LoadKind.{LoadKind}
+
+-- no refusal has the number 0
+pub never_0 : (r : Refusal) → number_of r ≡ 0 → ⊥
+never_0 KeyPairs e = omega arith
+never_0 KeyByte e = omega arith
+never_0 UnknownKeys e = omega arith
+never_0 KeyValue e = omega arith
+never_0 Oxide e = omega arith
+never_0 Temperature e = omega arith
+never_0 Potential e = omega arith
+never_0 Node e = omega arith
+never_0 Voltage e = omega arith
+never_0 Refused.Stage e = omega arith
+never_0 Step e = omega arith
+never_0 Refused.Pattern e = omega arith
+never_0 MissingCell e = omega arith
+never_0 Run e = omega arith
+never_0 Tag e = omega arith
 
 -- a row that applies is the answer
 pub early_refuses : (a b c d : Bool) (rest : Outcome Unit) → (early_row a b c d ≡ 0 → ⊥)

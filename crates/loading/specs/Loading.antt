@@ -20,8 +20,6 @@ use Rattle.stamps.specs.declared.ChargeBranches.{ChargeBranches}
 use Rattle.assembly.specs.Assembly.{Pattern, Contribution, Source, matrix_contributions, source_contributions, all_there, add_cells, add_sources}
 use Rattle.loading.specs.declared.LoadKind.{LoadKind}
 use Rattle.loading.specs.declared.LoadKind.TheVariants.{DirectCurrent, Transient}
-use Rattle.loading.specs.declared.LoadAnswer.{LoadAnswer}
-use Rattle.loading.specs.declared.LoadAnswer.TheVariants.{Done, Refused}
 
 -- row 8: a node is not below the lent length or the row count; before binding there are no nodes
 unfoldable pub nodes_outside : Stage → Terminals → ℕ → ℕ → Bool
@@ -65,11 +63,6 @@ load_rows d k P rhs values =
     ∷ (12 when not (well_formed P.columns P.offsets P.lengths (length values)))
     ∷ (13 when not (all_there P (jacobian_contributions d k)))
     ∷ []
-
--- LoadAnswer by its cases; what an accepted load gives is in the two slices
-abbrev pub outcome_of_load : LoadAnswer → Outcome Unit
-outcome_of_load Done = done tt
-outcome_of_load (Refused n) = refused n
 
 unfoldable pub load_of : Mosfet1 → LoadKind → Pattern → List Float → List Float → Outcome Unit
 load_of d k P rhs values = unless (load_rows d k P rhs values) refused (done tt)

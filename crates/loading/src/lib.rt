@@ -2,13 +2,14 @@
 // mosfet1.rs, over the pattern of mna.rs), with the refusals of rows 8, 10, 11, 12 and 13.
 #![tactic(auto)]
 
-ghost use Rattle.std.specs.Prelude.{◌≡◌, not, length};
-ghost use Rattle.pattern.specs.Pattern.{well_formed};
-ghost use Rattle.device.specs.Nodes.{node_beyond, any_node_beyond};
+ghost use Rattle.std.specs.Prelude.{◌≡◌, not, length, IfOk};
+ghost use Rattle.pattern.specs.Pattern.{lists, well_formed};
+ghost use Rattle.device.specs.Refusals.{number, outcome};
 ghost use Rattle.device.specs.Stages.{unbound, unevaluated};
-ghost use Rattle.loading.specs.Loading.{nodes_outside, alpha_inside, alpha_outside, no_branches, branches_of, early_row, outcome_of_load, Loaded};
+ghost use Rattle.loading.specs.Loading.{nodes_outside, alpha_inside, alpha_outside, no_branches, branches_of, early_row, Loaded};
 
-use device::{Discretisation, Mosfet1, NodeId, Stage, Terminals};
+use device::{Discretisation, Mosfet1, NodeId, Refusal, Stage, Terminals};
+use pattern::{Pattern, WellFormed};
 use stamps::{ChargeBranch, ChargeBranches};
 
 // Direct current, or transient with the factor alpha of a load without a step.
@@ -18,74 +19,20 @@ pub enum LoadKind {
     Transient(f64),
 }
 
-// Both slices were loaded, or the number of the row that refuses it.
-#[derive(Clone, Copy)]
-pub enum LoadAnswer {
-    Done,
-    Refused(u8),
-}
-
-fn unbound(stage: Stage) -> bool
-    ensures { result ≡ unbound stage }
-{
-    device::before(stage, Stage::Bound)
-}
-
-pub fn unevaluated(stage: Stage) -> bool
-    ensures { result ≡ unevaluated stage }
-{
-    device::before(stage, Stage::Evaluated)
-}
-
-fn node_beyond(n: usize, node: NodeId) -> bool
-    ensures { result ≡ node_beyond n node }
-{
-    match node {
-        NodeId::Ground => false,
-        NodeId::At(i) => n <= i,
-    }
-}
-
-fn any_node_beyond(n: usize, t: Terminals) -> bool
-    ensures { result ≡ any_node_beyond n t }
-{
-    let drain_ext = t.drain_ext;
-    let source_ext = t.source_ext;
-    let drain = t.drain;
-    let gate = t.gate;
-    let source = t.source;
-    let bulk = t.bulk;
-    if node_beyond(n, drain_ext) {
-        return true;
-    }
-    if node_beyond(n, source_ext) {
-        return true;
-    }
-    if node_beyond(n, drain) {
-        return true;
-    }
-    if node_beyond(n, gate) {
-        return true;
-    }
-    if node_beyond(n, source) {
-        return true;
-    }
-    node_beyond(n, bulk)
-}
-
 // Row 8. A node below the smaller of the two lengths is below both.
 pub fn nodes_outside(stage: Stage, t: Terminals, len: usize, rows: usize) -> bool
     ensures { result ≡ nodes_outside stage t len rows }
 {
-    if unbound(stage) {
+    if stage.is_unbound() {
         return false;
     }
     if len < rows {
-        return any_node_beyond(len, t);
+        return t.any_beyond(len);
     }
-    any_node_beyond(rows, t)
+    t.any_beyond(rows)
 }
 
+#[tactic(auto, unfolding(crate::specs::Loading::alpha_inside))]
 fn alpha_inside(alpha: f64) -> bool
     ensures { result ≡ alpha_inside alpha }
 {
@@ -93,6 +40,7 @@ fn alpha_inside(alpha: f64) -> bool
 }
 
 // Row 11.
+#[tactic(auto, unfolding(crate::specs::Loading::alpha_outside))]
 pub fn alpha_outside(disc: Discretisation, kind: LoadKind) -> bool
     ensures { result ≡ alpha_outside disc kind }
 {
@@ -107,6 +55,7 @@ pub fn alpha_outside(disc: Discretisation, kind: LoadKind) -> bool
     }
 }
 
+#[tactic(auto, unfolding(crate::specs::Loading::no_branches, crate::specs::Loading::no_branch))]
 fn no_branches() -> ChargeBranches
     ensures { result ≡ no_branches }
 {
@@ -128,6 +77,7 @@ fn no_branches() -> ChargeBranches
 }
 
 // The charge branches of a load: none at direct current.
+#[tactic(auto, unfolding(crate::specs::Loading::branches_of))]
 pub fn branches(device: Mosfet1, kind: LoadKind) -> ChargeBranches
     ensures { result ≡ branches_of device kind }
 {
@@ -137,33 +87,30 @@ pub fn branches(device: Mosfet1, kind: LoadKind) -> ChargeBranches
     }
 }
 
-// Rows 8, 10, 11 and 12 in this order, 0 where none applies.
-fn early_row(
+// Rows 8, 10, 11 and 12 in this order; where none applies, the pattern as one that was tested.
+#[tactic(auto, unfolding(crate::specs::Loading::early_row))]
+fn early_row<'a>(
     stage: Stage,
     t: Terminals,
     disc: Discretisation,
     kind: LoadKind,
     rhs: usize,
     values: usize,
-    columns: &[u32],
-    offsets: &[usize],
-    lengths: &[usize],
-) -> u8
-    ensures { result ≡ early_row (nodes_outside stage t rhs (length offsets.now)) (unevaluated stage) (alpha_outside disc kind) (not (well_formed columns.now offsets.now lengths.now values)) }
+    pattern: Pattern<'a>,
+) -> Result<WellFormed<'a>, Refusal>
+    ensures row { number (outcome result) ≡ early_row (nodes_outside stage t rhs (length pattern.entry.offsets.now)) (unevaluated stage) (alpha_outside disc kind) (not (well_formed pattern.entry.columns.now pattern.entry.offsets.now pattern.entry.lengths.now values)) }
+    ensures kept { IfOk result (λ w. lists w.pattern ≡ lists pattern.entry) }
 {
-    if nodes_outside(stage, t, rhs, offsets.len()) {
-        return 8;
+    if nodes_outside(stage, t, rhs, pattern.offsets.len()) {
+        return Err(Refusal::Node);
     }
-    if unevaluated(stage) {
-        return 10;
+    if stage.is_unevaluated() {
+        return Err(Refusal::Stage);
     }
     if alpha_outside(disc, kind) {
-        return 11;
+        return Err(Refusal::Step);
     }
-    if !pattern::well_formed(columns, offsets, lengths, values) {
-        return 12;
-    }
-    0
+    pattern.tested(values).ok_or(Refusal::Pattern)
 }
 
 // A load. A refused one leaves both slices as they were.
@@ -172,36 +119,26 @@ pub fn load(
     kind: LoadKind,
     rhs: &mut [f64],
     values: &mut [f64],
-    columns: &[u32],
-    offsets: &[usize],
-    lengths: &[usize],
-) -> LoadAnswer
-    ensures { Loaded device kind (record { columns = columns.now; offsets = offsets.now; lengths = lengths.now }) rhs.old values.old (outcome_of_load result) rhs.new values.new }
+    pattern: Pattern<'_>,
+) -> Result<(), Refusal>
+    ensures { Loaded device kind (lists pattern.entry) rhs.old values.old (outcome result) rhs.new values.new }
 {
-    let stage = device.stage;
     let t = device.terminals;
-    let disc = device.disc;
-    let row = early_row(
-        stage,
+    let tested = early_row(
+        device.stage,
         t,
-        disc,
+        device.disc,
         kind,
         rhs.len(),
         values.len(),
-        columns,
-        offsets,
-        lengths,
-    );
-    if row != 0 {
-        return LoadAnswer::Refused(row);
-    }
+        pattern,
+    )?;
     let jacobian = stamps::jac_values(device);
     let residual = stamps::residual_values(device);
     let charge = branches(device, kind);
-    if !assembly::assemble(
-        t, jacobian, residual, charge, values, rhs, columns, offsets, lengths,
-    ) {
-        return LoadAnswer::Refused(13);
+    if assembly::assemble(t, jacobian, residual, charge, values, rhs, tested) {
+        Ok(())
+    } else {
+        Err(Refusal::MissingCell)
     }
-    LoadAnswer::Done
 }

@@ -1,5 +1,5 @@
 -- The logarithm of a positive finite number by its bits: the number as a fraction above 1, or its reciprocal as one. Assumes nothing.
-use Rattle.std.proofs.Common.{◌≡◌, ℕ, ◌+◌, ◌-◌, ◌*◌, ◌/◌, ◌%◌, ◌^◌, ◌<◌, ◌≤◌, Bool, cond, ltb, sym, refl, ap, ◌∙◌, le_trans, le_of_lt, mul-le-mul_right, mod-lt, mul_assoc, mul_comm, mul-le-mul, mul-le-mul_left, lt_of_not-le, mul_left_comm, arith, lit≤, pow_pos, pow_mono, pow-add, le-ltb, lt-ltb}
+use Rattle.std.proofs.Common.{◌≡◌, ℕ, ◌+◌, ◌-◌, ◌*◌, ◌/◌, ◌%◌, ◌^◌, ◌<◌, ◌≤◌, Bool, cond, ltb, sym, refl, ap, ◌∙◌, le_trans, le_of_lt, mul-le-mul_right, mod-lt, mul_assoc, mul-le-mul, mul-le-mul_left, lt_of_not-le, mul_left_comm, arith, lit≤, pow_pos, pow_mono, pow-add, le-ltb, lt-ltb}
 use native.Mathlib.Decide.{dec_le}
 use lib.Count.{count_leading_zeros}
 use Rattle.exact.proofs.PositivePatterns.{units_of}

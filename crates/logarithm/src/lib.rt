@@ -7,6 +7,7 @@ ghost use Rattle.logarithm.specs.FixedPoint.{near_one, limit, ln_mant_of, twos_o
 ghost use Rattle.logarithm.specs.declared.Log.TheVariants.{Above, Below};
 ghost use Rattle.logarithm.specs.Logarithm.{log_bits, log_of, log_size_of, rounded_of, ln_of, ln1p_of};
 
+use exponential::UNIT;
 use tables::ln_row;
 use wide::mulhi;
 
@@ -21,14 +22,20 @@ fn near_one(z: u64) -> u64
     z - mulhi(w, low + mulhi(w, high))
 }
 
-// The logarithm of m / 2^62, from 1 up to 2, in units of 2^-64. The quotient's first digit, which is 1, is shifted out.
-fn ln_mant(m: u64) -> u64
-    requires { (2 ^ 62 ≤ m) × (m < 2 ^ 63) }
-    ensures { (result ≡ ln_mant_of m) × (result < limit) }
+// A number from 1 up to 2, in units of 2^-62: the digits of a float, the first of them before the point.
+#[derive(Clone, Copy)]
+struct Mantissa {
+    units: u64,
+    ghost from_one: { 2 ^ 62 ≤ units },
+    ghost below_two: { units < 2 ^ 63 },
+}
+
+// The logarithm of m, in units of 2^-64. The quotient's first digit, which is 1, is shifted out.
+fn ln_mant(m: Mantissa) -> u64
+    ensures { (result ≡ ln_mant_of m.units) × (result < limit) }
 {
-    let row = ln_row((m >> 55) & 127);
-    let log = row.log;
-    log + near_one(mulhi(m, row.inverse) << 3)
+    let row = ln_row((m.units >> 55) & 127);
+    row.log + near_one(mulhi(m.units, row.inverse) << 3)
 }
 
 // n ln 2 in units of 2^-53, rounded up.
@@ -54,27 +61,28 @@ pub enum Log {
     Below(u64),
 }
 
-// The logarithm of m / 2^62 * 2^n, in units of 2^-53.
-fn log_above(m: u64, n: u64) -> u64
-    requires { (2 ^ 62 ≤ m) × (m < 2 ^ 63) × (n ≤ 1100) }
-    ensures { result ≡ twos_of n + ln_mant_of m / 2048 }
+// The logarithm of m * 2^n, in units of 2^-53. It and the next are one line each, of which one function would be no plainer.
+fn log_above(m: Mantissa, n: u64) -> u64
+    requires { n ≤ 1100 }
+    ensures { result ≡ twos_of n + ln_mant_of m.units / 2048 }
 {
     twos(n) + ln_mant(m) / 2048
 }
 
-// The size of the logarithm of m / 2^62 / 2^n.
-fn log_below(m: u64, n: u64) -> u64
-    requires { (2 ^ 62 ≤ m) × (m < 2 ^ 63) × (0 < n) × (n ≤ 1100) }
-    ensures { result ≡ twos_of n - ln_mant_of m / 2048 }
+// The size of the logarithm of m / 2^n.
+fn log_below(m: Mantissa, n: u64) -> u64
+    requires { (0 < n) × (n ≤ 1100) }
+    ensures { result ≡ twos_of n - ln_mant_of m.units / 2048 }
 {
     twos(n) - ln_mant(m) / 2048
 }
 
-// The digits of the normal number whose pattern is bits, the first of them before the point, in units of 2^-62.
-fn digits(bits: u64) -> u64
-    ensures { (result ≡ (bits % 2 ^ 52 + 2 ^ 52) * 1024) × (2 ^ 62 ≤ result) × (result < 2 ^ 63) }
+// The digits of the normal number whose pattern is bits.
+fn digits(bits: u64) -> Mantissa
+    ensures { result.units ≡ (bits % 2 ^ 52 + 2 ^ 52) * 1024 }
 {
-    ((bits & 0xf_ffff_ffff_ffff) + 0x10_0000_0000_0000) * 1024
+    let units = ((bits & 0xf_ffff_ffff_ffff) + 0x10_0000_0000_0000) * 1024;
+    Mantissa { units }
 }
 
 // The size of the logarithm of the positive finite number whose pattern is bits. The functions below answer a number, not a Log, which would go through memory.
@@ -83,8 +91,9 @@ fn size_of_bits(bits: u64) -> u64
     ensures { log_bits bits ≡ (if nat_lt (bits / 2 ^ 52) 1023 then Below result else Above result) }
 {
     if bits < 0x10_0000_0000_0000 {
-        let z = u64::leading_zeros(bits) as u64;
-        return log_below(bits << (z - 1), 1011 + z);
+        let z = bits.leading_zeros() as u64;
+        let units = bits << (z - 1);
+        return log_below(Mantissa { units }, 1011 + z);
     }
     let m = digits(bits);
     let field = bits >> 52;
@@ -106,74 +115,64 @@ fn log_bits(bits: u64) -> Log
     Log::Above(v)
 }
 
-// The size of the logarithm of b, and a number above every size where b is not positive, not finite, or 1. With a size below that
-// number the sign is told by a comparison with 1.
+// The size of the logarithm of b, and a number above every size where b is not positive, not finite, or 1 (`log_size_of`, which
+// docs/PROMISES.md names, has that number too). With a size below it the sign is told by a comparison with 1.
 pub fn log_size(b: f64) -> u64
     ensures { (result ≡ log_size_of b) × (result ≤ 760 * 2 ^ 53 → log_of b ≡ (if (b <f +1) then Below result else Above result)) }
 {
-    if b > 0.0 {
-        if b < 1.0 / 0.0 {
-            if b != 1.0 {
-                return size_of_bits(f64::to_bits(b));
-            }
-        }
+    if b > 0.0 && b < f64::INFINITY && b != 1.0 {
+        return size_of_bits(b.to_bits());
     }
-    0xffff_ffff_ffff_ffff
+    u64::MAX
 }
 
 // The logarithm of a base.
 pub fn log_of(b: f64) -> Log
     ensures { result ≡ log_of b }
 {
-    if b > 0.0 {
-        if b < 1.0 / 0.0 {
-            if b == 1.0 {
-                return Log::BaseOne;
-            }
-            return log_bits(f64::to_bits(b));
+    if b > 0.0 && b < f64::INFINITY {
+        if b == 1.0 {
+            return Log::BaseOne;
         }
-        return Log::Undefined;
+        return log_bits(b.to_bits());
     }
     if b == 0.0 {
-        return Log::BaseZero;
+        Log::BaseZero
+    } else {
+        Log::Undefined
     }
-    Log::Undefined
 }
 
 // v * 2^-53, rounded once.
 fn rounded(v: u64) -> f64
     ensures { result ≡ rounded_of v }
 {
-    std::num::nearest_u64_to_f64(v) * 0.00000000000000011102230246251565
+    std::num::nearest_u64_to_f64(v) * UNIT
 }
 
 // The natural logarithm of a positive normal number; NaN otherwise. A number is below 1 where its exponent's field is below 1023; at 1 the logarithm is 0 without a test.
 pub fn ln(x: f64) -> f64
     ensures { result ≡ ln_of x }
 {
-    if x >= 2.2250738585072014e-308 {
-        if x < 1.0 / 0.0 {
-            let bits = f64::to_bits(x);
-            let field = bits >> 52;
-            if field < 1023 {
-                return -rounded(log_below(digits(bits), 1023 - field));
-            }
-            return rounded(log_above(digits(bits), field - 1023));
+    if x >= f64::MIN_POSITIVE && x < f64::INFINITY {
+        let bits = x.to_bits();
+        let field = bits >> 52;
+        if field < 1023 {
+            return -rounded(log_below(digits(bits), 1023 - field));
         }
+        return rounded(log_above(digits(bits), field - 1023));
     }
-    0.0 / 0.0
+    f64::NAN
 }
 
 // ln(1 + a) for a finite and not negative; NaN otherwise. 1 + a is not below 1, so its logarithm needs no test of the sign, and no Log.
 pub fn ln_1p(a: f64) -> f64
     ensures { result ≡ ln1p_of a }
 {
-    if a >= 0.0 {
-        let b = 1.0 + a;
-        if b < 1.0 / 0.0 {
-            let bits = f64::to_bits(b);
-            return rounded(log_above(digits(bits), (bits >> 52) - 1023));
-        }
+    let b = 1.0 + a;
+    if a >= 0.0 && b < f64::INFINITY {
+        let bits = b.to_bits();
+        return rounded(log_above(digits(bits), (bits >> 52) - 1023));
     }
-    0.0 / 0.0
+    f64::NAN
 }

@@ -10,10 +10,6 @@ use Rattle.setup.specs.Binding.{extra_nodes, node_limit}
 use Rattle.cells.specs.Cells.{cells_of}
 use Rattle.cell_pattern.specs.CellPattern.{row_count, pattern_of, have_room, over}
 use Rattle.cell_pattern.specs.declared.Needed.{Needed}
-use Rattle.matrix_layout.specs.declared.ExtraNodesAnswer.{ExtraNodesAnswer}
-use Rattle.matrix_layout.specs.declared.ExtraNodesAnswer.TheVariants as ExtraNodes
-use Rattle.matrix_layout.specs.declared.LayoutAnswer.{LayoutAnswer}
-use Rattle.matrix_layout.specs.declared.LayoutAnswer.TheVariants.{Lengths, Refused}
 
 -- row 10: before the first geometry call
 abbrev pub extra_nodes_rows : Mosfet1 → List Row
@@ -22,10 +18,6 @@ extra_nodes_rows d = (10 when before d.stage Geometry) ∷ []
 -- the number of extra nodes
 unfoldable pub extra_nodes_of : Mosfet1 → Outcome ℕ
 extra_nodes_of d = unless (extra_nodes_rows d) refused (done (extra_nodes d.geometry))
-
-abbrev pub outcome_of_extra_nodes : ExtraNodesAnswer → Outcome ℕ
-outcome_of_extra_nodes (ExtraNodes.Nodes n) = done n
-outcome_of_extra_nodes (ExtraNodes.Refused n) = refused n
 
 -- row 8: a node of a bound device is above 2^32 - 1. Binding accepts none such, but a record that a caller wrote may hold one. Row 10: before
 -- binding there are no nodes
@@ -36,10 +28,6 @@ layout_rows d = (8 when (not (unbound d.stage) && any_node_beyond node_limit d.t
 unfoldable pub layout_of : Mosfet1 → Outcome Needed
 layout_of d =
     unless (layout_rows d) refused (done (record { columns = length (cells_of d.terminals); rows = row_count d.terminals }))
-
-abbrev pub outcome_of_layout : LayoutAnswer → Outcome Needed
-outcome_of_layout (Lengths n) = done n
-outcome_of_layout (Refused n) = refused n
 
 -- whether the pattern is written: the call is accepted, and each of the three slices is long enough
 unfoldable pub is_written : Mosfet1 → ℕ → ℕ → ℕ → Bool

@@ -3,39 +3,25 @@
 #![tactic(auto)]
 
 ghost use Rattle.std.specs.Prelude.{◌≡◌};
+ghost use Rattle.device.specs.Refusals.{outcome};
 ghost use Rattle.matrix_layout.specs.MatrixLayout.{
   extra_nodes_of,
-  outcome_of_extra_nodes,
-  outcome_of_layout,
   Layout,
 };
 
 use cell_pattern::Needed;
-use device::{Mosfet1, Stage};
-
-// The number of extra nodes, or the number of the refusal.
-#[derive(Clone, Copy)]
-pub enum ExtraNodesAnswer {
-    Nodes(usize),
-    Refused(u8),
-}
-
-// The needed lengths, or the number of the refusal.
-#[derive(Clone, Copy)]
-pub enum LayoutAnswer {
-    Lengths(Needed),
-    Refused(u8),
-}
+use cells::BoundTerminals;
+use device::{Mosfet1, Refusal, Stage};
 
 // How many nodes beyond the four terminals a binding will take. Before the first geometry call a sheet resistance counts for nothing yet.
-pub fn extra_nodes(device: Mosfet1) -> ExtraNodesAnswer
-    ensures { outcome_of_extra_nodes result ≡ extra_nodes_of device }
+pub fn extra_nodes(device: Mosfet1) -> Result<usize, Refusal>
+    ensures { outcome result ≡ extra_nodes_of device }
 {
     let stage = device.stage;
     if device::before(stage, Stage::Geometry) {
-        return ExtraNodesAnswer::Refused(10);
+        return Err(Refusal::Stage);
     }
-    ExtraNodesAnswer::Nodes(setup::num_extra_nodes(device))
+    Ok(setup::num_extra_nodes(device))
 }
 
 // Writes the pattern of every cell that the bound device may ever load in front of what the three slices hold; nothing where one is short.
@@ -44,17 +30,17 @@ pub fn matrix_layout(
     columns: &mut [u32],
     offsets: &mut [usize],
     lengths: &mut [usize],
-) -> LayoutAnswer
-    ensures { Layout device columns.old offsets.old lengths.old (outcome_of_layout result) columns.new offsets.new lengths.new }
+) -> Result<Needed, Refusal>
+    ensures { Layout device columns.old offsets.old lengths.old (outcome result) columns.new offsets.new lengths.new }
 {
     let stage = device.stage;
     let t = device.terminals;
     if loading::nodes_outside(stage, t, 4294967296, 4294967296) {
-        return LayoutAnswer::Refused(8);
+        return Err(Refusal::Node);
     }
     if device::before(stage, Stage::Bound) {
-        return LayoutAnswer::Refused(10);
+        return Err(Refusal::Stage);
     }
-    let needed = cell_pattern::lay_out(t, columns, offsets, lengths);
-    LayoutAnswer::Lengths(needed)
+    let bound = BoundTerminals { terminals: t };
+    Ok(cell_pattern::lay_out(bound, columns, offsets, lengths))
 }

@@ -23,7 +23,7 @@ use record_layout::LayoutOutcome;
 use record_resolved::ResolveOutcome;
 use record_setup::{CountOutcome, NodesRecord};
 use record_small_signal::{NoiseOutcome, ReactancesOutcome};
-use record_steps::{ChangesOrRefusal, CommitAnswer, ConditionsRecord, EvaluationReply};
+use record_steps::{ConditionsRecord, EvaluationReply};
 
 // What the header's inline check holds a caller's object to.
 #[unsafe(no_mangle)]
@@ -153,25 +153,22 @@ pub extern "C" fn mivtolgya_eval_in_place(
         × (device.new ≡ (eval_call device.old x.now conditions).device) }
 {
     let asked = *device;
-    let at = record_steps::read_voltages(asked, x, conditions);
+    let at = match record_steps::read_voltages(asked, x, conditions) {
+        Ok(at) => at,
+        Err(refusal) => return record_steps::refused_reply(refusal),
+    };
     let held = *device;
-    match record_steps::evaluate(held, at, conditions) {
-        ChangesOrRefusal::Transient(changes) => {
-            let charged = *device;
-            let charges = record_steps::charges(charged, at, changes);
-            device.point = changes.point;
-            device.charges = charges;
-            device.method = changes.method;
-            device.stage = 5;
-            changes.reply
-        }
-        ChangesOrRefusal::DirectCurrent(changes) => {
-            device.point = changes.point;
-            device.method = changes.method;
-            device.stage = 5;
-            changes.reply
-        }
-        ChangesOrRefusal::Refusal(reply) => reply,
+    let changes = record_steps::evaluate(held, at, conditions);
+    let charged = *device;
+    if let Some(charges) = record_steps::charges(charged, at, conditions, changes) {
+        device.charges = charges;
+    }
+    device.point = changes.point;
+    device.method = changes.method;
+    device.stage = 5;
+    EvaluationReply {
+        refusal: 0,
+        answer: changes.answer,
     }
 }
 
@@ -203,12 +200,12 @@ pub extern "C" fn mivtolgya_commit_in_place(device: &mut DeviceRecord, x: &[f64]
 {
     let old = *device;
     match record_steps::commit(old, x) {
-        CommitAnswer::Changes(changes) => {
+        Ok(changes) => {
             device.point = changes.point;
             device.histories = changes.histories;
             0
         }
-        CommitAnswer::Refusal(number) => number,
+        Err(refusal) => record::wide(u8::from(refusal)),
     }
 }
 

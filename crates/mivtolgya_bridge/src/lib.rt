@@ -5,70 +5,63 @@
 #![tactic(auto)]
 
 ghost use Rattle.std.specs.Prelude.{◌≡◌};
+ghost use Rattle.pattern.specs.Pattern.{lists};
+ghost use Rattle.device.specs.Refusals.{number, outcome};
 ghost use Rattle.bridge_calls.specs.Calls.{bridge_call, bridge_side, bridge_matrix, block_call, block_side, block_matrix, resolved_bridge_call, resolved_bridge_side, resolved_bridge_matrix};
 ghost use Rattle.bridge_calls.specs.Steps.{bridge_number, block_number, resolved_bridge_number};
 
-// The number that a load of the whole bridge answers, by the lengths of its slices; 0 where nothing refuses it.
-fn bridge_number(
+use bridge::BlockRuns;
+use device::Refusal;
+use pattern::Pattern;
+
+// Why a load of the whole bridge is refused, by the lengths of its slices. The two tests are two refusals.
+fn bridge_row(
     bank: &[[f64; 113]],
-    starts: &[usize],
-    counts: &[usize],
+    runs: BlockRuns<'_>,
     transient: u64,
     alpha: f64,
     rows: usize,
     values: usize,
-    columns: &[u32],
-    offsets: &[usize],
-    lengths: &[usize],
-) -> u64
-    ensures { result ≡ bridge_number bank.now starts.now counts.now transient alpha (record { columns = columns.now; offsets = offsets.now; lengths = lengths.now }) rows values }
+    pattern: Pattern<'_>,
+) -> Result<(), Refusal>
+    ensures { number (outcome result) ≡ bridge_number bank.now runs.entry.starts.now runs.entry.counts.now transient alpha (lists pattern.entry) rows values }
 {
-    if !device_bank::good_bank(bank) {
-        return 100;
+    if !device_bank::good_bank(bank) || 1 < transient {
+        return Err(Refusal::Tag);
     }
-    if 1 < transient {
-        return 100;
-    }
-    if bridge::bridge_refused(starts, counts, rows, bank.len()) {
-        return 14;
+    if bridge::bridge_refused(runs, rows, bank.len()) {
+        return Err(Refusal::Run);
     }
     let kind = record_loading::kind_from(transient, alpha);
-    let row = device_bank::lowest_row(bank, kind, rows, values, columns, offsets, lengths);
-    record::wide(row)
+    device_bank::lowest_row(bank, kind, rows, values, pattern)
 }
 
 // The same of a block's load. Its devices are asked against the rows of its run.
-fn block_number(
+fn block_row(
     bank: &[[f64; 113]],
     block: usize,
-    starts: &[usize],
-    counts: &[usize],
+    runs: BlockRuns<'_>,
     transient: u64,
     alpha: f64,
     rows: usize,
     values: usize,
-    columns: &[u32],
-    offsets: &[usize],
-    lengths: &[usize],
-) -> u64
-    ensures { result ≡ block_number bank.now block starts.now counts.now transient alpha (record { columns = columns.now; offsets = offsets.now; lengths = lengths.now }) rows values }
+    pattern: Pattern<'_>,
+) -> Result<(), Refusal>
+    ensures { number (outcome result) ≡ block_number bank.now block runs.entry.starts.now runs.entry.counts.now transient alpha (lists pattern.entry) rows values }
 {
-    if !device_bank::good_bank(bank) {
-        return 100;
+    if !device_bank::good_bank(bank) || 1 < transient {
+        return Err(Refusal::Tag);
     }
-    if 1 < transient {
-        return 100;
-    }
-    if bridge::block_refused(block, starts, counts, rows, bank.len()) {
-        return 14;
+    if bridge::block_refused(block, runs, rows, bank.len()) {
+        return Err(Refusal::Run);
     }
     let kind = record_loading::kind_from(transient, alpha);
-    let own = counts[block];
-    let row = device_bank::lowest_row(bank, kind, own, values, columns, offsets, lengths);
-    record::wide(row)
+    let own = runs.counts[block];
+    device_bank::lowest_row(bank, kind, own, values, pattern)
 }
 
-// Sets both slices to zero and loads the devices of the whole bridge in device order.
+// Sets both slices to zero and loads the devices of the whole bridge in device order. The calls answer a number, as C has it, and no `Result`
+// that `?` could hand on.
 pub fn mivtolgya_load_bridge(
     bank: &[[f64; 113]],
     starts: &[usize],
@@ -85,25 +78,27 @@ pub fn mivtolgya_load_bridge(
         × ((rhs.new ≡ bridge_side bank.now starts.now counts.now transient alpha (record { columns = columns.now; offsets = offsets.now; lengths = lengths.now }) rhs.old values.old)
         × (values.new ≡ bridge_matrix bank.now starts.now counts.now transient alpha (record { columns = columns.now; offsets = offsets.now; lengths = lengths.now }) rhs.old values.old)) }
 {
-    let number = bridge_number(
+    let runs = BlockRuns { starts, counts };
+    let pattern = Pattern {
+        columns,
+        offsets,
+        lengths,
+    };
+    if let Err(refusal) = bridge_row(
         bank,
-        starts,
-        counts,
+        runs,
         transient,
         alpha,
         rhs.len(),
         values.len(),
-        columns,
-        offsets,
-        lengths,
-    );
-    if number != 0 {
-        return number;
+        pattern,
+    ) {
+        return record::number(Err(refusal));
     }
     let kind = record_loading::kind_from(transient, alpha);
     device_bank::set_to_zero(rhs);
     device_bank::set_to_zero(values);
-    device_bank::add_devices(bank, kind, rhs, values, columns, offsets, lengths);
+    device_bank::add_devices(bank, kind, rhs, values, pattern);
     0
 }
 
@@ -126,61 +121,50 @@ pub fn mivtolgya_load_block(
         × ((rhs.new ≡ block_side bank.now block starts.now counts.now transient alpha (record { columns = columns.now; offsets = offsets.now; lengths = lengths.now }) rhs.old values.old)
         × (values.new ≡ block_matrix bank.now block starts.now counts.now transient alpha (record { columns = columns.now; offsets = offsets.now; lengths = lengths.now }) rhs.old values.old)) }
 {
-    let number = block_number(
+    let runs = BlockRuns { starts, counts };
+    let pattern = Pattern {
+        columns,
+        offsets,
+        lengths,
+    };
+    if let Err(refusal) = block_row(
         bank,
         block,
-        starts,
-        counts,
+        runs,
         transient,
         alpha,
         rhs.len(),
         values.len(),
-        columns,
-        offsets,
-        lengths,
-    );
-    if number != 0 {
-        return number;
+        pattern,
+    ) {
+        return record::number(Err(refusal));
     }
     let kind = record_loading::kind_from(transient, alpha);
     let start = starts[block];
     let end = start + counts[block];
-    device_bank::add_devices(
-        bank,
-        kind,
-        &mut rhs[start..end],
-        values,
-        columns,
-        offsets,
-        lengths,
-    );
+    device_bank::add_devices(bank, kind, &mut rhs[start..end], values, pattern);
     0
 }
 
-// The number of a load of the whole bridge by cells. Where no device is refused by itself, every tag is known and need not be asked again.
+// The number of a load of the whole bridge by cells, 0 where nothing refuses it; a number, since the devices' own is one. Where no device is
+// refused by itself, every tag is known and need not be asked again.
 fn resolved_number(
     bank: &[[f64; 113]],
-    starts: &[usize],
-    counts: &[usize],
+    runs: BlockRuns<'_>,
     transient: u64,
     alpha: f64,
     cells: &[[usize; 37]],
     rows: usize,
     values: usize,
 ) -> u64
-    ensures { result ≡ resolved_bridge_number bank.now starts.now counts.now transient alpha cells.now rows values }
+    ensures { result ≡ resolved_bridge_number bank.now runs.entry.starts.now runs.entry.counts.now transient alpha cells.now rows values }
 {
     let number = bank_resolved::lowest_number(bank, transient, alpha, cells, rows, values);
-    if number != 0 {
-        if !device_bank::good_bank(bank) {
-            return 100;
-        }
+    if number != 0 && !device_bank::good_bank(bank) || 1 < transient {
+        return record::number(Err(Refusal::Tag));
     }
-    if 1 < transient {
-        return 100;
-    }
-    if bridge::bridge_refused(starts, counts, rows, bank.len()) {
-        return 14;
+    if bridge::bridge_refused(runs, rows, bank.len()) {
+        return record::number(Err(Refusal::Run));
     }
     number
 }
@@ -200,16 +184,8 @@ pub fn mivtolgya_load_bridge_resolved(
         × ((rhs.new ≡ resolved_bridge_side bank.now starts.now counts.now transient alpha cells.now rhs.old values.old)
         × (values.new ≡ resolved_bridge_matrix bank.now starts.now counts.now transient alpha cells.now rhs.old values.old)) }
 {
-    let number = resolved_number(
-        bank,
-        starts,
-        counts,
-        transient,
-        alpha,
-        cells,
-        rhs.len(),
-        values.len(),
-    );
+    let runs = BlockRuns { starts, counts };
+    let number = resolved_number(bank, runs, transient, alpha, cells, rhs.len(), values.len());
     if number != 0 {
         return number;
     }

@@ -12,7 +12,7 @@ use Rattle.mosfet1.specs.Steps.{evaluated_of, committed_of}
 use Rattle.mosfet1.specs.declared.steps.Conditions.{Conditions}
 use Rattle.rows.specs.Rows.{voltages_of, eval_rows, commit_rows, noise_rows, eval_row_of, commit_row_of, noise_row_of}
 use Rattle.model.specs.Calls.{eval_of, commit_of}
-use Rattle.model.specs.SmallSignal.{density_of, sources_of, noise_of}
+use Rattle.model.specs.SmallSignal.{density_of, source_of, noise_of}
 
 pub eval_by_row : (d : Mosfet1) (x : List Float) (transient : Bool) (k : Conditions) → eval_of d x transient k ≡ cond (eqb (eval_row_of d.stage d.terminals x k.temperature k.gmin k.method) 0) (done (evaluated_of d (voltages_of x d.terminals) transient k)) (refused (eval_row_of d.stage d.terminals x k.temperature k.gmin k.method))
 unfolding eval_of eval_row_of
@@ -22,6 +22,6 @@ pub commit_by_row : (d : Mosfet1) (x : List Float) → commit_of d x ≡ cond (e
 unfolding commit_of commit_row_of
 commit_by_row d x = by_number (commit_rows d.stage d.terminals x) refused _ tt
 
-pub noise_by_row : (d : Mosfet1) (t : Kelvin) (freq : Float) → noise_of d t freq ≡ cond (eqb (noise_row_of d.stage t) 0) (done (sources_of d.terminals (density_of d t freq))) (refused (noise_row_of d.stage t))
+pub noise_by_row : (d : Mosfet1) (t : Kelvin) (freq : Float) → noise_of d t freq ≡ cond (eqb (noise_row_of d.stage t) 0) (done (source_of d.terminals (density_of d t freq))) (refused (noise_row_of d.stage t))
 unfolding noise_of noise_row_of
 noise_by_row d t freq = by_number (noise_rows d.stage t) refused _ tt

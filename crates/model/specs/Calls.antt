@@ -6,17 +6,6 @@ use Rattle.mosfet1.specs.Steps.{evaluated_of, committed_of}
 use Rattle.mosfet1.specs.declared.steps.Conditions.{Conditions}
 use Rattle.mosfet1.specs.declared.steps.Evaluated.{Evaluated}
 use Rattle.rows.specs.Rows.{voltages_of, eval_rows, commit_rows}
-use Rattle.model.specs.declared.calls.Evaluation.{Evaluation}
-use Rattle.model.specs.declared.calls.Commit.{Commit}
-
--- Evaluation and Commit by their cases
-abbrev pub outcome_of_evaluation : Evaluation → Outcome Evaluated
-outcome_of_evaluation (Evaluation.Done e) = done e
-outcome_of_evaluation (Evaluation.Refused n) = refused n
-
-abbrev pub outcome_of_commit : Commit → Outcome Mosfet1
-outcome_of_commit (Commit.Done e) = done e
-outcome_of_commit (Commit.Refused n) = refused n
 
 -- x is the lent list of node voltages
 unfoldable pub eval_of : Mosfet1 → List Float → Bool → Conditions → Outcome Evaluated

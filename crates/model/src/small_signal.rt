@@ -1,32 +1,28 @@
 // What the calls for noise and reactances answer. The calls are in `small_signal`; their definitions are here.
 use device::NodeId;
 
-// One source from drain to source with its density, none, or the row that refuses the call.
+// A noise source between two nodes, with its density.
 #[derive(Clone, Copy)]
-pub enum Noise {
-    Quiet,
-    Source(NodeId, NodeId, f64),
-    Refused(u8),
+pub struct NoiseSource {
+    pub pos: NodeId,
+    pub neg: NodeId,
+    pub density: f64,
 }
 
-// A capacitor between two nodes, or none.
+// A capacitor between two nodes.
 #[derive(Clone, Copy)]
-pub enum Reactance {
-    Absent,
-    Capacitor(NodeId, NodeId, f64),
+pub struct Capacitor {
+    pub pos: NodeId,
+    pub neg: NodeId,
+    pub capacitance: f64,
 }
 
+// The five charge branches' capacitors, each where it has one.
 #[derive(Clone, Copy)]
-pub struct FiveReactances {
-    pub gs: Reactance,
-    pub gd: Reactance,
-    pub gb: Reactance,
-    pub bs: Reactance,
-    pub bd: Reactance,
-}
-
-#[derive(Clone, Copy)]
-pub enum Reactances {
-    Found(FiveReactances),
-    Refused(u8),
+pub struct Reactances {
+    pub gs: Option<Capacitor>,
+    pub gd: Option<Capacitor>,
+    pub gb: Option<Capacitor>,
+    pub bs: Option<Capacitor>,
+    pub bd: Option<Capacitor>,
 }

@@ -29,22 +29,20 @@ pub struct AnswerAndPoint {
     pub point: OperatingPoint,
 }
 
+#[tactic(auto, unfolding(crate::specs::Steps::evaluated_answer_of))]
 fn evaluated_answer(d: Mosfet1, v: Voltages, gmin: f64, limiter: bool) -> Answer
     ensures { result ≡ evaluated_answer_of d v gmin limiter }
 {
-    let card = d.card;
-    let scaled = d.scaled;
-    let point = d.point;
-    let pol = card.polarity;
+    let pol = d.card.polarity;
     let kept = bias::keep(
         pol,
-        pol * scaled.vto_t,
+        pol * d.scaled.vto_t,
         v,
         limiter,
-        point.vgs_eff_prev,
-        point.vds_eff_prev,
+        d.point.vgs_eff_prev,
+        d.point.vds_eff_prev,
     );
-    bias::channel_answer(card, d.geometry, scaled, v, kept, gmin)
+    bias::channel_answer(d.card, d.geometry, d.scaled, v, kept, gmin)
 }
 
 // The exponentials of both junctions come first: they rest on the nodes' voltages alone, and the processor goes on with them while
@@ -63,9 +61,8 @@ pub fn answer_and_point(
     let isat_bs = d.geometry.isat_bs * factor;
     let isat_bd = d.geometry.isat_bd * factor;
     let pol = d.card.polarity;
-    let vb = v.vb;
-    let vbs = vb - v.vs;
-    let vbd = vb - v.vd;
+    let vbs = v.vb - v.vs;
+    let vbd = v.vb - v.vd;
     let e_bs = junction::junction_exponential(isat_bs, pol * vbs, vt);
     let e_bd = junction::junction_exponential(isat_bd, pol * vbd, vt);
     let answer = evaluated_answer(d, v, gmin, limiter);
@@ -87,30 +84,18 @@ pub fn evaluated_charges(d: Mosfet1, v: Voltages, transient: bool, a: Answer) ->
     d.charges
 }
 
+#[tactic(auto, unfolding(crate::specs::Steps::evaluated_of, crate::specs::Steps::evaluated_from_of, crate::specs::Steps::evaluated_point_of))]
 pub fn evaluate(d: Mosfet1, v: Voltages, transient: bool, k: Conditions) -> Evaluated
     ensures { result ≡ evaluated_of d v transient k }
 {
-    let disc = k.method;
     let vt = junction::vt(k.temperature);
-    let at = answer_and_point(d, v, vt, k.gmin, k.limiter);
-    let answer = at.answer;
-    let point = at.point;
-    let charges = evaluated_charges(d, v, transient, answer);
-    let card = d.card;
-    let geometry = d.geometry;
-    let scaled = d.scaled;
-    let terminals = d.terminals;
-    let histories = d.histories;
+    let AnswerAndPoint { answer, point } = answer_and_point(d, v, vt, k.gmin, k.limiter);
     let device = Mosfet1 {
-        card,
-        geometry,
-        scaled,
-        terminals,
         point,
-        charges,
-        histories,
-        disc,
+        charges: evaluated_charges(d, v, transient, answer),
+        disc: k.method,
         stage: Stage::Evaluated,
+        ..d
     };
     Evaluated { device, answer }
 }

@@ -9,6 +9,7 @@ use lib.ListN.{take, drop}
 use lib.Ieee.{Float, binary64, of_bits, neg, div, round, units}
 use lib.Ieee.Bits.{of_bits-fits}
 use lib.Ieee.Fits.{cond-fits, neg-fits, add-fits}
+use Rattle.std.specs.Prelude.{Option, Some, None, unwrap_or}
 use Rattle.exact.specs.Fraction.{◌//◌, nat}
 use Rattle.exact.specs.Float64.{◌⊘◌, ◌>f◌, +0, +1}
 use Rattle.exact.specs.Size.{minus}
@@ -27,8 +28,9 @@ use Rattle.keys.specs.declared.Key.TheVariants.{Vto, Kp, Uo, Is, Js, Lambda, Gam
 use Rattle.keys.specs.declared.Meaning.{Meaning}
 use Rattle.keys.specs.declared.Range.TheVariants.{Within}
 use Rattle.keys.specs.declared.Table.TheVariants as Table
-use Rattle.entries.specs.Entries.{entries_of, Keyed}
-use Rattle.card.specs.Card.{+1e-4, assigned, parameters_of, defaults_of, kp_from, polarity_of, given_if, card_record_of, fresh_geometry, fresh_scaled, fresh_device, card_of}
+use Rattle.entries.specs.Entries.{entries_of, settings_of}
+use Rattle.entries.specs.declared.Keyed.{Keyed}
+use Rattle.card.specs.Card.{+1e-4, assigned, parameters_of, defaults_of, kp_from, polarity_of, card_record_of, fresh_geometry, fresh_scaled, fresh_device, card_of}
 use Rattle.card.specs.declared.Parameters.{Parameters}
 use Rattle.accepted.specs.Bounds.{InRange, OxideFrom, ParametersInRange}
 use Rattle.accepted.specs.Bounds as Oxide
@@ -66,7 +68,7 @@ assigned_fit p m v f h =
     picked k old o = cond-fits binary64 (is_set k m) v old f o
 
 parameters_fit : (bytes : List ℕ) (p : Parameters) (offsets lengths : List ℕ) {values : List Float} → Every F64 values → ParametersFit p → ParametersFit (parameters_of p (entries_of bytes offsets lengths values))
-unfolding parameters_of entries_of
+unfolding parameters_of settings_of entries_of
 parameters_fit bytes p [] lengths fs h = h
 parameters_fit bytes p (o ∷ offsets) [] fs h = h
 parameters_fit bytes p (o ∷ offsets) (n ∷ lengths) none h = h
@@ -96,23 +98,27 @@ oxide (Oxide.thickness h) =
     from_zero_⊘ (constant_from_zero 0x3dc2_fbda_5e73_10c0 (minus 34) tt) (between Tox (minus 34) (pos 0) tt h) tt
 
 -- KP: given, UO COX, or the fallback
-module _ (given? : Bool) {kp uo cox : Float} (K : InRange Kp kp) (U : InRange Uo uo) (C : FromZero cox (pos 0)) where
-  transconductance : FromZero (kp_from given? kp uo cox) (pos 7)
+by_given : (kp : Option Float) (uo cox : Float) → FromZero (unwrap_or kp +0) (pos 7) → FromZero (kp_from None uo cox) (pos 7) → FromZero (kp_from kp uo cox) (pos 7)
+by_given (Some kp) uo cox g e = g
+by_given None uo cox g e = e
+
+module _ (kp : Option Float) {uo cox : Float} (K : InRange Kp (unwrap_or kp +0)) (U : InRange Uo uo) (C : FromZero cox (pos 0)) where
+  transconductance : FromZero (kp_from kp uo cox) (pos 7)
   unfolding computing
   transconductance =
       let metres = constant_from_zero 0x3f1a_36e2_eb1c_432d (minus 13) tt in
       let product = from_zero_⊗ (from_zero_⊗ (from_zero Uo (pos 17) tt U) metres tt) C tt in
       let fallback = constant_from_zero 0x3ef4_f8b5_88e3_68f1 (minus 15) tt in
       let else_part = by_choice (λ (x : Float). FromZero x (pos 7)) (cox >f +0) (from_zero_weaken product (pos 7) tt) (from_zero_weaken fallback (pos 7) tt) in
-      by_choice (λ (x : Float). FromZero x (pos 7)) given? (from_zero Kp (pos 7) tt K) else_part
+      by_given kp uo cox (from_zero Kp (pos 7) tt K) else_part
 
 polarity_is : (is_pmos : Bool) → (polarity_of is_pmos ≡ +1) ⊎ (polarity_of is_pmos ≡ neg +1)
 polarity_is true = inr refl
 polarity_is false = inl refl
 
-resistance : (given? : Bool) {v : Float} → ZeroOrBetween v (minus 20) (pos 30) → GivenResistance (given_if given? v)
-resistance true h = given h
-resistance false h = absent
+resistance : (r : Option Float) → ZeroOrBetween (unwrap_or r +0) (minus 20) (pos 30) → GivenResistance r
+resistance (Some v) h = given h
+resistance None h = absent
 
 -- ---- the card
 module _ (is_pmos : Bool) {p : Parameters} (h : ParametersInRange p) (f : ParametersFit p) where
@@ -121,12 +127,12 @@ module _ (is_pmos : Bool) {p : Parameters} (h : ParametersInRange p) (f : Parame
   card_record_sizes =
       record {
         vto = record { f64 = f.vto; range = in_range Vto _ _ tt h.vto };
-        kp = transconductance p.kp_given h.kp h.uo (oxide h.cox);
+        kp = transconductance p.kp h.kp h.uo (oxide h.cox);
         lambda = from_zero Lambda (pos 4) tt h.lambda;
         gamma = record { f64 = f.gamma; range = in_range Gamma _ _ tt h.gamma };
         phi = record { f64 = f.phi; range = in_range Phi _ _ tt h.phi };
-        rd_card = resistance p.rd_given (zero_or_between Rd (minus 20) (pos 30) tt h.rd);
-        rs_card = resistance p.rs_given (zero_or_between Rs (minus 20) (pos 30) tt h.rs);
+        rd_card = resistance p.rd (zero_or_between Rd (minus 20) (pos 30) tt h.rd);
+        rs_card = resistance p.rs (zero_or_between Rs (minus 20) (pos 30) tt h.rs);
         rsh = zero_or_between Rsh (minus 20) (pos 20) tt h.rsh;
         is_bulk = from_zero Is (pos 0) tt h.is_bulk;
         js = from_zero Js (pos 20) tt h.js;

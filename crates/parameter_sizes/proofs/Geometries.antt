@@ -1,4 +1,5 @@
 -- An accepted geometry call: the sizes of what it sets and of what it derives.
+use Rattle.std.specs.Prelude.{Option}
 use Prim.Native.Nat.{ℕ}
 use mathlib.Core.Path.{◌≡◌, refl, sym, subst}
 use mathlib.Core.Bool.{◌&&◌}
@@ -10,12 +11,11 @@ use Rattle.exact.specs.Size.{minus}
 use Rattle.exact.proofs.Computing.{computing}
 use Rattle.device.specs.Refusals.{done}
 use Rattle.device.specs.declared.Card.{Card}
-use Rattle.device.specs.declared.Given.{Given}
 use Rattle.device.specs.declared.Mosfet1.{Mosfet1}
 use Rattle.keys.specs.declared.Key.TheVariants.{W, L, Nrd, Nrs, As, Ad, Ps, Pd}
 use Rattle.geometry.specs.Geometry.{or_else, saturation, geometry_record_of, geometry_of}
 use Rattle.geometry.specs.declared.Sizes.{Sizes}
-use Rattle.entries.specs.Entries.{Keyed}
+use Rattle.entries.specs.declared.Keyed.{Keyed}
 use Rattle.accepted.specs.Bounds.{InRange, SizesInRange}
 use Rattle.accepted.proofs.Accepted.{geometry_accepted}
 use Rattle.parameter_sizes.specs.ParameterSizes.{FromZero, ZeroOrBetween, GivenResistance, absent, given, CardSizes, GeometrySizes, DeviceSizes}
@@ -23,7 +23,7 @@ use Rattle.parameter_sizes.proofs.SizeLaws.{between_from_zero, from_zero_weaken,
 use Rattle.parameter_sizes.proofs.KeyRanges.{from_zero, between, zero_or_between}
 
 -- RD and RS: given, or RSH times the squares
-series_resistance : {g : Given} {rsh squares : Float} → GivenResistance g → ZeroOrBetween rsh (minus 20) (pos 20) → ZeroOrBetween squares (minus 20) (pos 20) → ZeroOrBetween (or_else g (rsh ⊗ squares)) (minus 40) (pos 40)
+series_resistance : {g : Option Float} {rsh squares : Float} → GivenResistance g → ZeroOrBetween rsh (minus 20) (pos 20) → ZeroOrBetween squares (minus 20) (pos 20) → ZeroOrBetween (or_else g (rsh ⊗ squares)) (minus 40) (pos 40)
 unfolding computing
 series_resistance absent R N = zero_or_⊗ R N tt tt
 series_resistance (given V') R N = zero_or_weaken V' (minus 40) (pos 40) tt tt

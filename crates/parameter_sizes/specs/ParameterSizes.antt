@@ -1,5 +1,5 @@
 -- The bounds that hold of every parameter of a device after accepted calls. Each follows from 01's ranges ("Ranges, ends included: ..") and rows 6 and 7.
-use Rattle.std.specs.Prelude.{◌≡◌, ◌⊎◌, List, [], ◌∷◌, T, ℤ, pos, Float}
+use Rattle.std.specs.Prelude.{◌≡◌, ◌⊎◌, List, [], ◌∷◌, T, ℤ, pos, Float, Option, Some, None}
 use Rattle.std.specs.Float.{binary64}
 use Rattle.std.specs.Float.Ieee.{fits, neg}
 use Rattle.exact.specs.Fraction.{ℚ, ◌//◌, nat, negq, ◌≈q◌}
@@ -9,8 +9,6 @@ use Rattle.exact.specs.Size.{minus, AtMost, AtLeast, NonNegative, Positive, Rang
 use Rattle.device.specs.declared.Card.{Card}
 use Rattle.device.specs.declared.Discretisation.TheVariants as Discretisation
 use Rattle.device.specs.declared.Geometry.{Geometry}
-use Rattle.device.specs.declared.Given.{Given}
-use Rattle.device.specs.declared.Given.TheVariants.{Absent, Value}
 use Rattle.device.specs.declared.Mosfet1.{Mosfet1}
 use Rattle.device.specs.declared.Scaled.{Scaled}
 use Rattle.device.specs.declared.Stage.TheVariants as Stage
@@ -58,9 +56,9 @@ pub record F64AtMost (x : Float) (a : ℤ) : Type 0 where
   pub at_most : AtMost x a
 
 -- rd and rs of the card: absent, or 0 or 1e-6 to 1e9
-pub data GivenResistance : Given → Type 0 where
-  absent : GivenResistance Absent
-  given : {v : Float} → ZeroOrBetween v (minus 20) (pos 30) → GivenResistance (Value v)
+pub data GivenResistance : Option Float → Type 0 where
+  absent : GivenResistance None
+  given : {v : Float} → ZeroOrBetween v (minus 20) (pos 30) → GivenResistance (Some v)
 
 -- ---- the card
 -- KP is given, UO COX or the fallback; COX is given or from TOX; the f64 0.9 lies above 9 // 10

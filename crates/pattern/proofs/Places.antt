@@ -3,8 +3,7 @@ use Rattle.std.proofs.Common.{◌≡◌, ℕ, zero, suc, ◌+◌, ◌-◌, ◌<�
 use lib.ListN.{get_or-eq_default}
 use lib.Seq.{slice, length-slice}
 use Rattle.pattern.specs.Pattern.{rising_after, rising, place_in, cell_of, well_formed}
-use Rattle.pattern.specs.declared.Found.{Found}
-use Rattle.pattern.specs.declared.Found.TheVariants.{At, Absent}
+use Rattle.std.specs.Prelude.{Option, Some, None}
 use Rattle.pattern.proofs.Rows.{and_left, and_right, Row, row_at, pairs_of, same_count}
 
 lt_or_le : (m n : ℕ) → (m < n) ⊎ (n ≤ m)
@@ -38,16 +37,16 @@ ordered (x ∷ xs) e (suc p) (suc q) l h = ordered xs (rising_tail x xs e) p q (
 
 -- the first place by reading on from the first element
 place_found : (at : ℕ) (xs : List ℕ) (column p : ℕ) → p < length xs → get_or xs p 0 ≡ column
-    → ((j : ℕ) → j < p → get_or xs j 0 ≡ column → ⊥) → place_in at xs column ≡ At (at + p)
+    → ((j : ℕ) → j < p → get_or xs j 0 ≡ column → ⊥) → place_in at xs column ≡ Some (at + p)
 unfolding place_in
 place_found at [] column p h e f = absurd (not-suc-le-zero h)
 place_found at (x ∷ xs) column zero h e f = simp (eq-eqb _ _ e, add-zero)
 place_found at (x ∷ xs) column (suc p) h e f =
     simp (ne_eqb _ _ (f zero (suc-le-suc zero-le)))
     (place_found (suc at) xs column p (le_of_suc-le-suc h) e (λ j l. f (suc j) (suc-le-suc l))
-    ∙ ap At (suc-add at p ∙ sym (add-suc at p)))
+    ∙ ap Some (suc-add at p ∙ sym (add-suc at p)))
 
-place_absent : (at : ℕ) (xs : List ℕ) (column : ℕ) → ((j : ℕ) → j < length xs → get_or xs j 0 ≡ column → ⊥) → place_in at xs column ≡ Absent
+place_absent : (at : ℕ) (xs : List ℕ) (column : ℕ) → ((j : ℕ) → j < length xs → get_or xs j 0 ≡ column → ⊥) → place_in at xs column ≡ None
 unfolding place_in
 place_absent at [] column f = refl
 place_absent at (x ∷ xs) column f =
@@ -70,13 +69,13 @@ module _ (columns : List ℕ) (f t : ℕ) (inside : t ≤ length columns) where
       let o = ordered (slice f t columns) e (p - f) (q - f) (omega arith) (omega (arith, length-slice f t columns inside)) in
       omega (arith, o, here p l (omega arith), here q (omega arith) k)
 
-  pub places_found : rising (slice f t columns) ≡ true → (k : ℕ) → f ≤ k → k < t → place_in f (slice f t columns) (get_or columns k 0) ≡ At k
+  pub places_found : rising (slice f t columns) ≡ true → (k : ℕ) → f ≤ k → k < t → place_in f (slice f t columns) (get_or columns k 0) ≡ Some k
   places_found e k l h =
       place_found f (slice f t columns) (get_or columns k 0) (k - f) (omega (arith, length-slice f t columns inside)) (here k l h)
       (λ j b q. omega (arith, q, here k l h, ordered (slice f t columns) e j (k - f) b (omega (arith, length-slice f t columns inside))))
-      ∙ ap At (omega arith)
+      ∙ ap Some (omega arith)
 
-  pub places_absent : (column : ℕ) → ((k : ℕ) → f ≤ k → k < t → get_or columns k 0 ≡ column → ⊥) → place_in f (slice f t columns) column ≡ Absent
+  pub places_absent : (column : ℕ) → ((k : ℕ) → f ≤ k → k < t → get_or columns k 0 ≡ column → ⊥) → place_in f (slice f t columns) column ≡ None
   places_absent column n =
       place_absent f (slice f t columns) column
       (λ j b e. n (f + j) (omega arith) (inner j b) (sym (slice_at j (inner j b)) ∙ e))
@@ -123,7 +122,7 @@ module _ (columns : List ℕ) (f t column lo hi : ℕ) (inside : t ≤ length co
         (lt_or_eq mid k m);
   }
 
-  pub bracket_none : hi ≤ lo → place_in f (slice f t columns) column ≡ Absent
+  pub bracket_none : hi ≤ lo → place_in f (slice f t columns) column ≡ None
   bracket_none h =
       places_absent columns f t inside column
       (λ k l m e. ⊎_elim
@@ -132,30 +131,30 @@ module _ (columns : List ℕ) (f t column lo hi : ℕ) (inside : t ≤ length co
       (lt_or_le k lo))
 
 -- a row behind the last has no cell
-pub cell_outside : (columns os ns : List ℕ) (row column : ℕ) → length os ≤ row → length ns ≤ row → cell_of columns os ns row column ≡ Absent
+pub cell_outside : (columns os ns : List ℕ) (row column : ℕ) → length os ≤ row → length ns ≤ row → cell_of columns os ns row column ≡ None
 unfolding cell_of place_in
 cell_outside columns os ns row column h k = simp (get_or-eq_default os 0 h, get_or-eq_default ns 0 k)
 
 -- a place that is found lies within the columns
-pick_within : (b : Bool) (at p n : ℕ) (rest : Found) → cond b (At at) rest ≡ At p → at < n → (rest ≡ At p → p < n) → p < n
+pick_within : (b : Bool) (at p n : ℕ) (rest : Option ℕ) → cond b (Some at) rest ≡ Some p → at < n → (rest ≡ Some p → p < n) → p < n
 pick_within true at p n rest e h k = let q : at ≡ p = cc in omega arith
 pick_within false at p n rest e h k = k e
 
-place_within : (at : ℕ) (xs : List ℕ) (column p : ℕ) → place_in at xs column ≡ At p → p < at + length xs
+place_within : (at : ℕ) (xs : List ℕ) (column p : ℕ) → place_in at xs column ≡ Some p → p < at + length xs
 unfolding place_in
 place_within at [] column p e = let z : ◌≡◌ {A = ℕ} 0 1 = cc in omega arith
 place_within at (x ∷ xs) column p e =
     pick_within (eqb x column) at p (at + suc (length xs)) (place_in (suc at) xs column) e (omega arith)
     (λ q. omega (arith, place_within (suc at) xs column p q))
 
-cell_inside : (columns os ns : List ℕ) (row column p : ℕ) → Row columns os ns row → cell_of columns os ns row column ≡ At p → p < length columns
+cell_inside : (columns os ns : List ℕ) (row column p : ℕ) → Row columns os ns row → cell_of columns os ns row column ≡ Some p → p < length columns
 unfolding cell_of
 cell_inside columns os ns row column p r e =
     omega
     (arith, place_within (get_or os row 0) _ column p e, length-slice (get_or os row 0) (get_or os row 0 + get_or ns row 0) columns r.within, r.within)
 
 pub cell_within : (columns os ns : List ℕ) (values : ℕ) → well_formed columns os ns values ≡ true → (row column p : ℕ)
-    → cell_of columns os ns row column ≡ At p → p < length columns
+    → cell_of columns os ns row column ≡ Some p → p < length columns
 cell_within columns os ns values well row column p e =
     let fit = pairs_of columns os ns values well in
     ⊎_elim

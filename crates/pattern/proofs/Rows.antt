@@ -1,6 +1,8 @@
 -- Laws of row 12's test: rising columns read one by one, and the pairs of offset and length read one by one.
-use Rattle.std.proofs.Common.{◌≡◌, ℕ, zero, suc, ◌+◌, ◌<◌, ◌≤◌, Bool, true, false, ◌&&◌, T, eqb, ltb, leb, List, [], ◌∷◌, length, get_or, drop, sym, refl, ap, ◌∙◌, subst, le_of_suc-le-suc, not-suc-le-zero, add-one, drop_of_length-le, drop-cons, le-ltb, lt-ltb, eq-eqb, ne_eqb, le-leb, leb-true}
+use Rattle.std.proofs.Common.{eqb-true, ◌≡◌, ℕ, zero, suc, ◌+◌, ◌-◌, ◌<◌, ◌≤◌, Bool, true, false, ◌&&◌, T, eqb, ltb, leb, List, [], ◌∷◌, length, get_or, take, drop, sym, refl, ap, ◌∙◌, subst, le_of_suc-le-suc, not-suc-le-zero, add-one, drop_of_length-le, drop-cons, le-ltb, lt-ltb, eq-eqb, ne_eqb, le-leb, leb-true}
+use native.Mathlib.Omega.{arith}
 use lib.Seq.{slice, slice_empty, slice-cons}
+use Rattle.std.specs.List.{IsAllAdjacentAnswer}
 use borrow.Author.Tests.{lt-leb}
 use Rattle.pattern.specs.Pattern.{rising_after, rising, pairs_fit, well_formed, row_columns}
 
@@ -42,11 +44,51 @@ pub rise_none : (columns : List ℕ) (i t : ℕ) → i ≡ t → rising (slice i
 unfolding rising
 rise_none columns i t e = rw (e, slice_empty)
 
--- pairs that differ in count
 and_no : (a : Bool) → (a && false) ≡ false
 and_no true = refl
 and_no false = refl
 
+-- columns rise exactly if each is below the one behind it
+after_true : (x : ℕ) (xs : List ℕ) → ((k : ℕ) → suc k < length (x ∷ xs) → true ≡ ltb (get_or (x ∷ xs) k 0) (get_or (x ∷ xs) (suc k) 0)) → rising_after x xs ≡ true
+unfolding rising_after
+after_true x [] h = refl
+after_true x (y ∷ ys) h = ap (λ (b : Bool). b && rising_after y ys) (sym (h zero (omega arith))) ∙ after_true y ys (λ k e. h (suc k) (omega arith))
+
+after_false : (x : ℕ) (xs : List ℕ) (k : ℕ) → suc k < length (x ∷ xs) → false ≡ ltb (get_or (x ∷ xs) k 0) (get_or (x ∷ xs) (suc k) 0) → rising_after x xs ≡ false
+unfolding rising_after
+after_false x [] k e f = absurd (omega arith)
+after_false x (y ∷ ys) zero e f = ap (λ (b : Bool). b && rising_after y ys) (sym f)
+after_false x (y ∷ ys) (suc k) e f = ap (λ (b : Bool). ltb x y && b) (after_false y ys k (omega arith) f) ∙ and_no (ltb x y)
+
+rising_true : (xs : List ℕ) → ((k : ℕ) → suc k < length xs → true ≡ ltb (get_or xs k 0) (get_or xs (suc k) 0)) → rising xs ≡ true
+unfolding rising
+rising_true [] h = refl
+rising_true (x ∷ xs) h = after_true x xs h
+
+rising_false : (xs : List ℕ) (k : ℕ) → suc k < length xs → false ≡ ltb (get_or xs k 0) (get_or xs (suc k) 0) → rising xs ≡ false
+unfolding rising
+rising_false [] k e f = absurd (omega arith)
+rising_false (x ∷ xs) k e f = after_false x xs k e f
+
+pub rising_decided : (xs : List ℕ) (r : Bool) → IsAllAdjacentAnswer (λ x y b. b ≡ ltb x y) xs r → r ≡ rising xs
+rising_decided xs true h =
+    sym (rising_true xs (λ k e. let next : k + 1 ≡ suc k = omega arith in subst (λ (j : ℕ). true ≡ ltb (get_or xs k 0) (get_or xs j 0)) next (h k 0 (omega arith))))
+rising_decided xs false h =
+    let next : h.0 + 1 ≡ suc h.0 = omega arith in
+    sym (rising_false xs h.0 (omega (arith, h.1)) (subst (λ (j : ℕ). false ≡ ltb (get_or xs h.0 0) (get_or xs j 0)) next (h.2 0)))
+
+none_taken : (n : ℕ) → take {A = ℕ} n [] ≡ []
+none_taken zero = refl
+none_taken (suc n) = refl
+
+-- the part of the columns that the code lends, as the definitions name it
+pub part_is : (f t : ℕ) (xs : List ℕ) → f ≤ t → take (t - f) (drop f xs) ≡ slice f t xs
+part_is zero t xs h = let whole : t - 0 ≡ t = omega arith in ap (λ (n : ℕ). take n xs) whole
+part_is (suc f) zero xs h = absurd (omega arith)
+part_is (suc f) (suc t) [] h = none_taken _
+part_is (suc f) (suc t) (x ∷ xs) h = let less : suc t - suc f ≡ t - f = omega arith in ap (λ (n : ℕ). take n (drop f xs)) less ∙ part_is f t xs (omega arith)
+
+-- pairs that differ in count
 pub pairs_differ : (columns : List ℕ) (end : ℕ) (os ns : List ℕ) → (length os ≡ length ns → ⊥) → pairs_fit columns end os ns ≡ false
 unfolding pairs_fit
 pairs_differ columns end [] [] h = absurd (h refl)
@@ -140,3 +182,10 @@ module _ (columns os ns : List ℕ) (values : ℕ) where
   pub pairs_of : well_formed columns os ns values ≡ true → pairs_fit columns 0 os ns ≡ true
   unfolding well_formed
   pairs_of e = and_right (eqb values (length columns)) _ e
+
+-- a pattern that the test passes is one whatever it is asked with: the count of its values is that of its columns
+pub whatever_the_count : (columns os ns : List ℕ) (values : ℕ) → well_formed columns os ns values ≡ true → well_formed columns os ns (length columns) ≡ true
+unfolding well_formed
+whatever_the_count columns os ns values e =
+    let h : values ≡ length columns = eqb-true _ _ (and_left _ _ e) in
+    subst (λ (v : ℕ). well_formed columns os ns v ≡ true) h e

@@ -5,7 +5,7 @@ use lib.Seq.{slice}
 use borrow.Author.Tests.{lt-leb}
 use Rattle.pattern.specs.Pattern.{rising, well_formed, place_in, cell_of, span_of, distance, place_behind, guess_of}
 use Rattle.pattern.specs.declared.RowSpan.{RowSpan}
-use Rattle.pattern.specs.declared.Found.TheVariants.{At, Absent}
+use Rattle.std.specs.Prelude.{Option, Some, None}
 use Rattle.pattern.proofs.Rows.{Row, row_at, same_count, pairs_of, rise_none}
 use Rattle.pattern.proofs.Places.{places_found}
 
@@ -62,21 +62,21 @@ module _ (first column r : ℕ) (f : first < 2 ^ 64) (c : column < 2 ^ 64) (fits
 
 -- the three outcomes of a guess
 module _ (columns : List ℕ) (from len first column n : ℕ) (e : n ≡ distance first column) where
-  pub guess_outside : len ≤ n → Absent ≡ guess_of columns from len first column
+  pub guess_outside : len ≤ n → None ≡ guess_of columns from len first column
   unfolding guess_of place_behind
   guess_outside h = rw (← e) (simp (le-leb len n h))
 
-  pub guess_here : n < len → get_or columns (from + n) 0 ≡ column → At (from + n) ≡ guess_of columns from len first column
+  pub guess_here : n < len → get_or columns (from + n) 0 ≡ column → Some (from + n) ≡ guess_of columns from len first column
   unfolding guess_of place_behind
   guess_here h k = rw (← e) (simp (lt-leb len n h, eq-eqb _ _ k))
 
-  pub guess_elsewhere : n < len → (get_or columns (from + n) 0 ≡ column → ⊥) → Absent ≡ guess_of columns from len first column
+  pub guess_elsewhere : n < len → (get_or columns (from + n) 0 ≡ column → ⊥) → None ≡ guess_of columns from len first column
   unfolding guess_of place_behind
   guess_elsewhere h k = rw (← e) (simp (lt-leb len n h, ne_eqb _ _ k))
 
 -- a guess that names a place is right: the column stands there, in the row, and nowhere else in it
 pub record Guessed (columns : List ℕ) (from len column p : ℕ) : Type 0 where
-  pub right : place_in from (slice from (from + len) columns) column ≡ At p
+  pub right : place_in from (slice from (from + len) columns) column ≡ Some p
   pub here : get_or columns p 0 ≡ column
   pub some : 0 < len
 
@@ -89,13 +89,13 @@ module _ (columns : List ℕ) (from len column n p : ℕ) (within : from + len �
     some = omega arith;
   }
 
-  by_tests : (b d : Bool) → leb len n ≡ b → eqb (get_or columns (from + n) 0) column ≡ d → cond b Absent (cond d (At (from + n)) Absent) ≡ At p → Guessed columns from len column p
+  by_tests : (b d : Bool) → leb len n ≡ b → eqb (get_or columns (from + n) 0) column ≡ d → cond b None (cond d (Some (from + n)) None) ≡ Some p → Guessed columns from len column p
   by_tests true d h k q = let z : ◌≡◌ {A = ℕ} 0 1 = cc in absurd (omega arith)
   by_tests false true h k q = stands_there (leb-false len n h) (eqb-true _ _ k) (cc)
   by_tests false false h k q = let z : ◌≡◌ {A = ℕ} 0 1 = cc in absurd (omega arith)
 
 pub guess_right : (columns : List ℕ) (from len first column p : ℕ) → from + len ≤ length columns → rising (slice from (from + len) columns) ≡ true
-    → guess_of columns from len first column ≡ At p → Guessed columns from len column p
+    → guess_of columns from len first column ≡ Some p → Guessed columns from len column p
 unfolding guess_of place_behind
 guess_right columns from len first column p within rises q = by_tests columns from len column (distance first column) p within rises _ _ refl refl q
 

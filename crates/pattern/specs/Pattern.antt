@@ -1,9 +1,18 @@
 -- The matrix pattern: the columns of all rows in one list, and for each row the offset and the length of its part.
-use Rattle.std.specs.Prelude.{ℕ, suc, ◌+◌, ◌-◌, ◌^◌, Bool, true, false, cond, ◌&&◌, List, [], ◌∷◌, length, ◌==◌, nat_le, nat_lt, slice_index}
+use Rattle.std.specs.Prelude.{ℕ, suc, ◌+◌, ◌-◌, ◌^◌, Bool, true, false, cond, ◌&&◌, List, [], ◌∷◌, length, ◌==◌, nat_le, nat_lt, slice_index, Option, Some, None}
 use Rattle.std.proofs.Math.Seq.{slice}
-use Rattle.pattern.specs.declared.Found.{Found}
-use Rattle.pattern.specs.declared.Found.TheVariants.{At, Absent}
+use Rattle.pattern.specs.declared.Pattern.{Pattern as Lent}
 use Rattle.pattern.specs.declared.RowSpan.{RowSpan}
+
+-- a matrix pattern: all columns, and each row's offset and length
+pub record Pattern : Type 0 where
+  pub columns : List ℕ
+  pub offsets : List ℕ
+  pub lengths : List ℕ
+
+-- the pattern that three lent slices hold
+abbrev pub lists : Lent → Pattern
+lists p = record { columns = p.columns.now; offsets = p.offsets.now; lengths = p.lengths.now }
 
 -- each column of the list is above the one before it
 unfoldable pub rising_after : ℕ → List ℕ → Bool
@@ -32,12 +41,12 @@ unfoldable pub well_formed : List ℕ → List ℕ → List ℕ → ℕ → Bool
 well_formed columns offsets lengths values = values == length columns && pairs_fit columns 0 offsets lengths
 
 -- the first place at which a column stands in a list whose first place has the number at
-unfoldable pub place_in : ℕ → List ℕ → ℕ → Found
-place_in at [] column = Absent
-place_in at (x ∷ xs) column = cond (x == column) (At at) (place_in (suc at) xs column)
+unfoldable pub place_in : ℕ → List ℕ → ℕ → Option ℕ
+place_in at [] column = None
+place_in at (x ∷ xs) column = cond (x == column) (Some at) (place_in (suc at) xs column)
 
 -- `Pattern::cell`: the place of a row's column among all columns, if the row is there and has it
-unfoldable pub cell_of : List ℕ → List ℕ → List ℕ → ℕ → ℕ → Found
+unfoldable pub cell_of : List ℕ → List ℕ → List ℕ → ℕ → ℕ → Option ℕ
 cell_of columns offsets lengths row column =
     place_in (slice_index offsets row) (row_columns columns (slice_index offsets row) (slice_index lengths row)) column
 
@@ -56,10 +65,10 @@ unfoldable pub distance : ℕ → ℕ → ℕ
 distance first column = cond (nat_le first column) (column - first) (column + (2 ^ 64 - first))
 
 -- a place n behind a row's start, if the row reaches that far and the column stands there
-unfoldable pub place_behind : List ℕ → ℕ → ℕ → ℕ → ℕ → Found
+unfoldable pub place_behind : List ℕ → ℕ → ℕ → ℕ → ℕ → Option ℕ
 place_behind columns from len column n =
-    cond (nat_le len n) Absent (cond (slice_index columns (from + n) == column) (At (from + n)) Absent)
+    cond (nat_le len n) None (cond (slice_index columns (from + n) == column) (Some (from + n)) None)
 
 -- the place that a column has in a row without gaps: as far behind the row's start as the column is behind the row's first
-unfoldable pub guess_of : List ℕ → ℕ → ℕ → ℕ → ℕ → Found
+unfoldable pub guess_of : List ℕ → ℕ → ℕ → ℕ → ℕ → Option ℕ
 guess_of columns from len first column = place_behind columns from len column (distance first column)

@@ -1,10 +1,10 @@
 -- Where cells stand in a pattern, and how the code holds nodes and places: as numbers, with two numbers behind the end of every
 -- slice for a skipped and a missing cell.
-use Rattle.std.specs.Prelude.{ℕ, ◌+◌, ◌≤◌, ◌≡◌, Bool, true, cond, not, ◌&&◌, ◌||◌, List, [], ◌∷◌, length, get_or, eqb}
+use Rattle.std.specs.Prelude.{ℕ, ◌+◌, ◌≤◌, ◌≡◌, Bool, true, cond, not, ◌&&◌, ◌||◌, List, [], ◌∷◌, length, get_or, eqb, Option, Some, None}
 use Rattle.std.proofs.Math.Seq.{slice}
-use Rattle.pattern.specs.Pattern.{rising, place_in, cell_of}
-use Rattle.pattern.specs.declared.Found.{Found}
-use Rattle.pattern.specs.declared.Found.TheVariants.{At as FoundAt, Absent}
+use Rattle.pattern.specs.Pattern.{rising, place_in, cell_of, span_of}
+use Rattle.pattern.specs.declared.RowSpan.{RowSpan}
+pub use Rattle.pattern.specs.Pattern.{Pattern}
 use Rattle.device.specs.declared.NodeId.{NodeId}
 use Rattle.device.specs.declared.NodeId.TheVariants.{Ground, At}
 use Rattle.device.specs.declared.Terminals.{Terminals}
@@ -14,21 +14,15 @@ use Rattle.stamps.specs.declared.ChargeBranches.{ChargeBranches}
 use Rattle.places.specs.declared.Nodes.{Nodes}
 use Rattle.places.specs.declared.GatePlaces.{GatePlaces}
 
--- a matrix pattern: all columns, and each row's offset and length
-pub record Pattern : Type 0 where
-  pub columns : List ℕ
-  pub offsets : List ℕ
-  pub lengths : List ℕ
-
 -- where a cell stands: a position of ground has no place, and a cell may be missing from the pattern
 pub data Place : Type 0 where
   ground : Place
   missing : Place
   at : ℕ → Place
 
-unfoldable pub found_place : Found → Place
-found_place (FoundAt p) = at p
-found_place Absent = missing
+unfoldable pub found_place : Option ℕ → Place
+found_place (Some p) = at p
+found_place None = missing
 
 unfoldable pub place_of : Pattern → NodeId → NodeId → Place
 place_of P Ground column = ground
@@ -85,6 +79,12 @@ pub record SpanIn (columns : List ℕ) (row from len : ℕ) : Type 0 where
   pub rises : rising (slice from (from + len) columns) ≡ true
   pub empty : row ≡ skipped_number → len ≡ 0
 
+-- the row of the node with the number n, as the code holds it: the pattern's columns, the number, and the row's part
+pub record IsRow (P : Pattern) (n : ℕ) (columns : List ℕ) (node : ℕ) (span : RowSpan) : Type 0 where
+  pub columns_are : columns ≡ P.columns
+  pub node_is : node ≡ n
+  pub span_is : span ≡ span_of P.columns P.offsets P.lengths n
+
 -- the place of the cell in a row's part of the columns
 unfoldable pub span_number : List ℕ → ℕ → ℕ → ℕ → ℕ → ℕ
 span_number columns row from len column =
@@ -127,9 +127,3 @@ branches_there p q b =
 -- a gate branch is loaded
 unfoldable pub any_gate : ChargeBranches → Bool
 any_gate b = b.gs.conducts || b.gd.conducts || b.gb.conducts
-
--- what was looked up: the places, and whether every needed cell is there
-pub record Looked (P : Pattern) (t : Terminals) (b : ChargeBranches) (there : Bool) (places : List ℕ) (gate : GatePlaces) : Type 0 where
-  pub places_are : places ≡ numbers_of P (jac_pairs_of t)
-  pub gate_are : gate ≡ gate_places_of P t (any_gate b)
-  pub there_is : there ≡ (none_missing places && branches_there places gate b)

@@ -3,13 +3,14 @@
 // and for a cell that is not in the pattern.
 #![tactic(auto)]
 
-ghost use Rattle.std.specs.Prelude.{◌≡◌, true, cond, length};
-ghost use Rattle.pattern.specs.Pattern.{well_formed};
+ghost use Rattle.std.specs.Prelude.{◌≡◌, cond};
+ghost use Rattle.pattern.specs.Pattern.{lists};
 ghost use Rattle.stamps.specs.Stamps.{jac_pairs_of};
-ghost use Rattle.places.specs.Places.{index_of, nodes_of, terminals_at, SpanIn, span_number, numbers_of, gate_places_of, four_there, none_missing, branches_there, any_gate, Looked};
+ghost use Rattle.places.specs.Places.{index_of, nodes_of, terminals_at, SpanIn, IsRow, span_number, numbers_of, gate_places_of, four_there, none_missing, branches_there, any_gate};
+ghost use Rattle.places.specs.LookedUp.{looked_up};
 
 use device::{NodeId, Terminals};
-use pattern::{Found, RowSpan};
+use pattern::{RowSpan, WellFormed};
 use stamps::ChargeBranches;
 
 // The six nodes, each by its index; ground is the number of a skipped place.
@@ -33,19 +34,29 @@ pub struct GatePlaces {
     pub bg: usize,
 }
 
-// Whether every needed cell is in the pattern, and the places: of the 24 Jacobian values' cells, and of the gate's.
+// The places of the 24 Jacobian values' cells, and of the gate's.
 #[derive(Clone, Copy)]
 pub struct Cells {
-    pub there: bool,
     pub places: [usize; 24],
     pub gate: GatePlaces,
 }
 
-// Places behind the end of every slice: of a position of ground, and of a cell that is not in the pattern.
-const SKIPPED: usize = 18446744073709551615;
+// A row in which lookups are made: its node's number, and its part of the columns; ground's is empty.
+#[derive(Clone, Copy)]
+struct Row<'a> {
+    columns: &'a [u32],
+    node: usize,
+    span: RowSpan,
+    ghost inside: { SpanIn columns.now node span.from span.len },
+}
 
-const MISSING: usize = 18446744073709551614;
+// Places behind the end of every slice: of a position of ground, and of a cell that is not in the pattern. C holds them so
+// (include/mivtolgya.h), and a load adds at a place with one test for both.
+pub const SKIPPED: usize = 18446744073709551615;
 
+pub const MISSING: usize = 18446744073709551614;
+
+#[tactic(auto, unfolding(crate::specs::Places::index_of))]
 fn index(node: NodeId) -> usize
     ensures { result ≡ index_of node }
 {
@@ -55,80 +66,74 @@ fn index(node: NodeId) -> usize
     }
 }
 
+#[tactic(auto, unfolding(crate::specs::Places::nodes_of))]
 pub fn indices(t: Terminals) -> Nodes
     ensures { result ≡ nodes_of t }
 {
-    let drain_ext = t.drain_ext;
-    let source_ext = t.source_ext;
-    let drain = t.drain;
-    let gate = t.gate;
-    let source = t.source;
-    let bulk = t.bulk;
     Nodes {
-        drain_ext: index(drain_ext),
-        source_ext: index(source_ext),
-        drain: index(drain),
-        gate: index(gate),
-        source: index(source),
-        bulk: index(bulk),
+        drain_ext: index(t.drain_ext),
+        source_ext: index(t.source_ext),
+        drain: index(t.drain),
+        gate: index(t.gate),
+        source: index(t.source),
+        bulk: index(t.bulk),
     }
 }
 
-// The place of a cell that was not guessed.
-fn searched(columns: &[u32], row: usize, from: usize, len: usize, column: usize) -> usize
-    requires { SpanIn columns.now row from len }
-    ensures { result ≡ span_number columns.now row from len column }
+// A node's row in a pattern.
+fn row_of(pattern: WellFormed<'_>, node: usize) -> Row<'_>
+    ensures { IsRow (lists pattern.entry.pattern) node result.columns.now result.node result.span }
 {
-    if row == SKIPPED {
-        return SKIPPED;
-    }
-    if column == SKIPPED {
-        return SKIPPED;
-    }
-    match pattern::search(columns, from, from + len, column) {
-        Found::At(p) => p,
-        Found::Absent => MISSING,
+    let span = pattern.row_span(node);
+    Row {
+        columns: pattern.pattern.columns,
+        node,
+        span,
     }
 }
 
-// The place of a cell in a row whose part of the columns is known. A guess that names a place leaves nothing to test:
-// ground has no place to be guessed.
-fn place(columns: &[u32], row: usize, span: RowSpan, column: usize) -> usize
-    requires { SpanIn columns.now row span.from span.len }
-    ensures { result ≡ span_number columns.now row span.from span.len column }
-{
-    let from = span.from;
-    let len = span.len;
-    let first = span.first;
-    match pattern::guess(columns, from, len, first, column) {
-        Found::At(p) => p,
-        Found::Absent => searched(columns, row, from, len, column),
+impl Row<'_> {
+    // The place of a cell that was not guessed.
+    fn searched(self, column: usize) -> usize
+        ensures { result ≡ span_number self.entry.columns.now self.entry.node self.entry.span.from self.entry.span.len column }
+    {
+        if self.node == SKIPPED {
+            return SKIPPED;
+        }
+        if column == SKIPPED {
+            return SKIPPED;
+        }
+        let from = self.span.from;
+        match pattern::search(self.columns, from, from + self.span.len, column) {
+            Some(p) => p,
+            None => MISSING,
+        }
     }
-}
 
-// A place that is known where two nodes are the same.
-fn place_unless(
-    same: bool,
-    known: usize,
-    columns: &[u32],
-    row: usize,
-    span: RowSpan,
-    column: usize,
-) -> usize
-    requires { SpanIn columns.now row span.from span.len }
-    ensures { result ≡ cond same known (span_number columns.now row span.from span.len column) }
-{
-    if same {
-        return known;
+    // The place of a cell. A guess that names a place leaves nothing to test: ground has no place to be guessed.
+    fn place(self, column: usize) -> usize
+        ensures { result ≡ span_number self.entry.columns.now self.entry.node self.entry.span.from self.entry.span.len column }
+    {
+        let columns = self.columns;
+        let RowSpan { from, len, first } = self.span;
+        match pattern::guess(columns, from, len, first, column) {
+            Some(p) => p,
+            None => self.searched(column),
+        }
     }
-    place(columns, row, span, column)
+
+    // A place that is known where two nodes are the same.
+    fn place_unless(self, same: bool, known: usize, column: usize) -> usize
+        ensures { result ≡ cond same known (span_number self.entry.columns.now self.entry.node self.entry.span.from self.entry.span.len column) }
+    {
+        if same { known } else { self.place(column) }
+    }
 }
 
 // The places of the 24 Jacobian values' cells (`jac_pairs`); each different cell is looked up once, and where a terminal has
 // no series resistance its outer node is the inner one.
-fn jacobian_places(columns: &[u32], offsets: &[usize], lengths: &[usize], n: Nodes) -> [usize; 24]
-    requires { well_formed columns.now offsets.now lengths.now (length columns.now) ≡ true }
-    ensures { result ≡ numbers_of (record { columns = columns.now; offsets = offsets.now; lengths = lengths.now }) (jac_pairs_of (terminals_at n)) }
+fn jacobian_places(pattern: WellFormed<'_>, n: Nodes) -> [usize; 24]
+    ensures { result ≡ numbers_of (lists pattern.entry.pattern) (jac_pairs_of (terminals_at n)) }
 {
     let d = n.drain;
     let g = n.gate;
@@ -136,28 +141,28 @@ fn jacobian_places(columns: &[u32], offsets: &[usize], lengths: &[usize], n: Nod
     let b = n.bulk;
     let dx = n.drain_ext;
     let sx = n.source_ext;
-    let d_row = pattern::row_span(columns, offsets, lengths, d);
-    let d_g = place(columns, d, d_row, g);
-    let d_d = place(columns, d, d_row, d);
-    let d_s = place(columns, d, d_row, s);
-    let d_b = place(columns, d, d_row, b);
-    let s_row = pattern::row_span(columns, offsets, lengths, s);
-    let s_g = place(columns, s, s_row, g);
-    let s_d = place(columns, s, s_row, d);
-    let s_s = place(columns, s, s_row, s);
-    let s_b = place(columns, s, s_row, b);
-    let b_row = pattern::row_span(columns, offsets, lengths, b);
-    let b_b = place(columns, b, b_row, b);
-    let b_s = place(columns, b, b_row, s);
-    let b_d = place(columns, b, b_row, d);
-    let dx_row = pattern::row_span(columns, offsets, lengths, dx);
-    let dx_dx = place_unless(dx == d, d_d, columns, dx, dx_row, dx);
-    let dx_d = place_unless(dx == d, d_d, columns, dx, dx_row, d);
-    let d_dx = place_unless(dx == d, d_d, columns, d, d_row, dx);
-    let sx_row = pattern::row_span(columns, offsets, lengths, sx);
-    let sx_sx = place_unless(sx == s, s_s, columns, sx, sx_row, sx);
-    let sx_s = place_unless(sx == s, s_s, columns, sx, sx_row, s);
-    let s_sx = place_unless(sx == s, s_s, columns, s, s_row, sx);
+    let d_row = row_of(pattern, d);
+    let d_g = d_row.place(g);
+    let d_d = d_row.place(d);
+    let d_s = d_row.place(s);
+    let d_b = d_row.place(b);
+    let s_row = row_of(pattern, s);
+    let s_g = s_row.place(g);
+    let s_d = s_row.place(d);
+    let s_s = s_row.place(s);
+    let s_b = s_row.place(b);
+    let b_row = row_of(pattern, b);
+    let b_b = b_row.place(b);
+    let b_s = b_row.place(s);
+    let b_d = b_row.place(d);
+    let dx_row = row_of(pattern, dx);
+    let dx_dx = dx_row.place_unless(dx == d, d_d, dx);
+    let dx_d = dx_row.place_unless(dx == d, d_d, d);
+    let d_dx = d_row.place_unless(dx == d, d_d, dx);
+    let sx_row = row_of(pattern, sx);
+    let sx_sx = sx_row.place_unless(sx == s, s_s, sx);
+    let sx_s = sx_row.place_unless(sx == s, s_s, s);
+    let s_sx = s_row.place_unless(sx == s, s_s, sx);
     [
         d_g, d_d, d_s, d_b, s_g, s_d, s_s, s_b, dx_dx, dx_d, d_dx, d_d, sx_sx, sx_s, s_sx, s_s,
         b_b, b_s, s_b, s_s, b_b, b_d, d_b, d_d,
@@ -165,15 +170,8 @@ fn jacobian_places(columns: &[u32], offsets: &[usize], lengths: &[usize], n: Nod
 }
 
 // The five cells that only the gate's branches have, looked up where one of those is loaded.
-fn gate_places(
-    columns: &[u32],
-    offsets: &[usize],
-    lengths: &[usize],
-    n: Nodes,
-    any: bool,
-) -> GatePlaces
-    requires { well_formed columns.now offsets.now lengths.now (length columns.now) ≡ true }
-    ensures { result ≡ gate_places_of (record { columns = columns.now; offsets = offsets.now; lengths = lengths.now }) (terminals_at n) any }
+fn gate_places(pattern: WellFormed<'_>, n: Nodes, any: bool) -> GatePlaces
+    ensures { result ≡ gate_places_of (lists pattern.entry.pattern) (terminals_at n) any }
 {
     if !any {
         return GatePlaces {
@@ -188,104 +186,58 @@ fn gate_places(
     let g = n.gate;
     let s = n.source;
     let b = n.bulk;
-    let g_row = pattern::row_span(columns, offsets, lengths, g);
-    let b_row = pattern::row_span(columns, offsets, lengths, b);
-    let gg = place(columns, g, g_row, g);
-    let gs = place(columns, g, g_row, s);
-    let gd = place(columns, g, g_row, d);
-    let gb = place(columns, g, g_row, b);
-    let bg = place(columns, b, b_row, g);
+    let g_row = row_of(pattern, g);
+    let b_row = row_of(pattern, b);
+    let gg = g_row.place(g);
+    let gs = g_row.place(s);
+    let gd = g_row.place(d);
+    let gb = g_row.place(b);
+    let bg = b_row.place(g);
     GatePlaces { gg, gs, gd, gb, bg }
 }
 
 pub fn none_missing(places: &[usize]) -> bool
     ensures { result ≡ none_missing places.now }
 {
-    let mut k: usize = 0;
-    while k < places.len() {
-        if places[k] == MISSING {
-            return false;
-        }
-        k += 1;
-    }
-    true
+    places.iter().all(|p| *p != MISSING)
 }
 
+#[tactic(auto, unfolding(crate::specs::Places::four_there))]
 fn four_there(loaded: bool, aa: usize, ab: usize, bb: usize, ba: usize) -> bool
     ensures { result ≡ four_there loaded aa ab bb ba }
 {
-    if loaded {
-        let places = [aa, ab, bb, ba];
-        none_missing(&places)
-    } else {
-        true
-    }
+    !loaded || none_missing(&[aa, ab, bb, ba])
 }
 
 // Whether each loaded branch's four cells are in the pattern. The places p are those of the 24 values.
+#[tactic(auto, unfolding(crate::specs::Places::branches_there))]
 fn branches_there(p: &[usize; 24], q: GatePlaces, b: ChargeBranches) -> bool
     ensures { result ≡ branches_there p.now q b }
 {
-    let gs = b.gs;
-    let gd = b.gd;
-    let gb = b.gb;
-    let bs = b.bs;
-    let bd = b.bd;
-    if !four_there(gs.conducts, q.gg, q.gs, p[6], p[4]) {
-        return false;
-    }
-    if !four_there(gd.conducts, q.gg, q.gd, p[1], p[0]) {
-        return false;
-    }
-    if !four_there(gb.conducts, q.gg, q.gb, p[16], q.bg) {
-        return false;
-    }
-    if !four_there(bs.conducts, p[16], p[17], p[6], p[7]) {
-        return false;
-    }
-    four_there(bd.conducts, p[16], p[21], p[1], p[3])
+    four_there(b.gs.conducts, q.gg, q.gs, p[6], p[4])
+        && four_there(b.gd.conducts, q.gg, q.gd, p[1], p[0])
+        && four_there(b.gb.conducts, q.gg, q.gb, p[16], q.bg)
+        && four_there(b.bs.conducts, p[16], p[17], p[6], p[7])
+        && four_there(b.bd.conducts, p[16], p[21], p[1], p[3])
 }
 
+#[tactic(auto, unfolding(crate::specs::Places::any_gate))]
 fn any_gate(b: ChargeBranches) -> bool
     ensures { result ≡ any_gate b }
 {
-    let gs = b.gs;
-    let gd = b.gd;
-    let gb = b.gb;
-    if gs.conducts {
-        return true;
-    }
-    if gd.conducts {
-        return true;
-    }
-    gb.conducts
+    b.gs.conducts || b.gd.conducts || b.gb.conducts
 }
 
-// Looks up every needed cell. It serves the next layer: the pattern has passed row 12's test.
-pub fn look_up(
-    columns: &[u32],
-    offsets: &[usize],
-    lengths: &[usize],
-    n: Nodes,
-    b: ChargeBranches,
-) -> Cells
-    requires { well_formed columns.now offsets.now lengths.now (length columns.now) ≡ true }
-    ensures { Looked (record { columns = columns.now; offsets = offsets.now; lengths = lengths.now }) (terminals_at n) b result.there result.places result.gate }
+// Looks up every needed cell; none where one of them is not in the pattern.
+#[tactic(auto, unfolding(crate::specs::LookedUp::looked_up, crate::specs::LookedUp::cells_of))]
+pub fn look_up(pattern: WellFormed<'_>, n: Nodes, b: ChargeBranches) -> Option<Cells>
+    ensures { result ≡ looked_up (lists pattern.entry.pattern) (terminals_at n) b }
 {
-    let places = jacobian_places(columns, offsets, lengths, n);
-    let any = any_gate(b);
-    let gate = gate_places(columns, offsets, lengths, n, any);
-    if !none_missing(&places) {
-        return Cells {
-            there: false,
-            places,
-            gate,
-        };
-    }
-    let there = branches_there(&places, gate, b);
-    Cells {
-        there,
-        places,
-        gate,
+    let places = jacobian_places(pattern, n);
+    let gate = gate_places(pattern, n, any_gate(b));
+    if none_missing(&places) && branches_there(&places, gate, b) {
+        Some(Cells { places, gate })
+    } else {
+        None
     }
 }

@@ -1,3 +1,4 @@
+pub mod Mapping
 pub mod Exponents
 pub mod Products
 pub mod Cores

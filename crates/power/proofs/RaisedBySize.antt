@@ -7,8 +7,8 @@ use native.Mathlib.Omega.{arith}
 use lib.Dec.{T, eqb, eqb→eq, lt→ltb}
 use borrow.Author.Tests.{le-ltb}
 use lib.IntN.{ℤ}
-use lib.Ieee.{Float, nan, inf, fin, binary64, fits, up, down, le, lt, eq, level, neg, of_bits, div}
-use lib.Ieee.Fits.{and_i, and_l, eq→eqb, up_pos}
+use lib.Ieee.{Float, nan, inf, fin, binary64, fits, up, down, le, lt, eq, is_nan, neg, of_bits, div}
+use lib.Ieee.Fits.{and_l, up_pos}
 use lib.Ieee.Positive.{above, above_of_le}
 use Rattle.exact.specs.Float64.{◌<f◌, ◌=f◌, +0, +1}
 use Rattle.exact.proofs.Tests.{clash}
@@ -135,22 +135,17 @@ module _ (v : ℕ) (below : Bool) where
       ∙ cond_else _ _ _ _ (sym (ap (lt four) (size_minus m e)) ∙ h) refl
       ∙ sym (minus m e)
 
-  pub tiny : (p : Float) → T (fits binary64 p) → le least (size_of p) ≡ false → eq p p ≡ true → +1 ≡ Answer p
-  unfolding le lt eq of_bits neg fits
-  tiny nan f g h = clash (sym h)
+  pub tiny : (p : Float) → T (fits binary64 p) → le least (size_of p) ≡ false → is_nan p ≡ false → +1 ≡ Answer p
+  unfolding le lt eq is_nan of_bits neg fits
+  tiny nan f g h = clash h
   tiny (inf true) f g h = clash g
   tiny (inf false) f g h = clash g
   tiny (fin s zero e) f g h = cond_yes _ _ _ (zero_equal s e)
   tiny (fin false (suc m) e) f g h = small_power m e v below f (sym (ap (le least) (size_plus m e)) ∙ g) ∙ sym (plus m e)
   tiny (fin true (suc m) e) f g h = small_power m e v (not below) f (sym (ap (le least) (size_minus m e)) ∙ g) ∙ sym (minus m e)
 
-  pub no_number : (p : Float) → eq p p ≡ false → nan ≡ Answer p
-  unfolding raised_of eq lt of_bits neg
+  pub no_number : (p : Float) → is_nan p ≡ true → nan ≡ Answer p
+  unfolding raised_of eq lt is_nan of_bits neg
   no_number nan h = refl
-  no_number (inf true) h = refl
-  no_number (inf false) h = refl
-  no_number (fin s m e) h = absurd (subst T h (same s (m * up e * down e)))
-    where
-      same : (s : Bool) (a : ℕ) → T (level s a s a)
-      same true a = and_i (eqb a a) _ (eq→eqb {a = a} {b = a} refl) tt
-      same false a = and_i (eqb a a) _ (eq→eqb {a = a} {b = a} refl) tt
+  no_number (inf s) h = clash (sym h)
+  no_number (fin s m e) h = clash (sym h)

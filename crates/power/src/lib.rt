@@ -1,7 +1,7 @@
 // The power of a positive number: e to the product of the exponent and the base's logarithm, in fixed point.
 #![tactic(auto)]
 
-ghost use Rattle.std.specs.Prelude.{◌≡◌, ◌*◌, ◌^◌, ◌≤◌, T, true, cond};
+ghost use Rattle.std.specs.Prelude.{◌≡◌, ◌*◌, ◌^◌, ◌≤◌, T, true, cond, map, [], ◌∷◌};
 ghost use Rattle.std.specs.Float.{nan};
 ghost use Rattle.std.specs.Float.Ieee.{le, neg};
 ghost use Rattle.exact.specs.Float64.{◌⊖◌, ◌=f◌, +0, +1};
@@ -10,7 +10,7 @@ ghost use Rattle.exponential.specs.Exponential.{least, exp_fixed};
 ghost use Rattle.logarithm.specs.declared.Log.TheVariants.{Above, Below};
 ghost use Rattle.power.specs.Power.{four, product_of, power_of, size_of, down_of, raised_of, zero_to, pow_from, pow_of, Fractional, Digits};
 
-use exponential::{exp_fixed, whole_part};
+use exponential::{UNIT, exp_fixed, whole_part};
 use logarithm::{Log, log_of, log_size};
 use wide::mulhi;
 
@@ -22,7 +22,7 @@ fn power(t: u64, down: bool) -> f64
         if down {
             return 0.0;
         }
-        return 1.0 / 0.0;
+        return f64::INFINITY;
     }
     let e = exp_fixed(8 * t);
     if down {
@@ -39,6 +39,7 @@ fn product(p: f64, v: u64) -> u64
     mulhi(whole_part(p) * 256, v)
 }
 
+// f64::abs would clear a zero's sign too, by another test.
 fn size(p: f64) -> f64
     ensures { result ≡ size_of p }
 {
@@ -49,7 +50,7 @@ fn size(p: f64) -> f64
 fn down(below: bool, p: f64) -> bool
     ensures { result ≡ down_of below p }
 {
-    if p < 0.0 { !below } else { below }
+    below != (p < 0.0)
 }
 
 // e^(p * v / 2^53), or e^(-p * v / 2^53) where the base is below 1. For an exponent below 2^-53 that is 1.
@@ -57,16 +58,13 @@ fn raised(v: u64, below: bool, p: f64) -> f64
     ensures { result ≡ cond (p =f +0) +1 (raised_of v below p) }
 {
     let a = size(p);
-    if a >= 0.00000000000000011102230246251565 {
+    if a >= UNIT {
         if a > 4.0 {
-            return 0.0 / 0.0;
+            return f64::NAN;
         }
         return power(product(a, v), down(below, p));
     }
-    if p == p {
-        return 1.0;
-    }
-    0.0 / 0.0
+    if p.is_nan() { f64::NAN } else { 1.0 }
 }
 
 // The power of the base whose logarithm is l. The exponent 0 is tested last: it is rare.
@@ -86,10 +84,7 @@ fn pow_of(l: Log, p: f64) -> f64
 fn undefined_to(p: f64) -> f64
     ensures { result ≡ cond (p =f +0) +1 nan }
 {
-    if p == 0.0 {
-        return 1.0;
-    }
-    0.0 / 0.0
+    if p == 0.0 { 1.0 } else { f64::NAN }
 }
 
 // A zero to the power p.
@@ -99,10 +94,7 @@ fn zero_to(p: f64) -> f64
     if p == 0.0 {
         return 1.0;
     }
-    if p > 0.0 {
-        return 0.0;
-    }
-    0.0 / 0.0
+    if p > 0.0 { 0.0 } else { f64::NAN }
 }
 
 // b to the power p, for a positive finite b and a p of size at most 4; the exact cases; NaN otherwise.
@@ -112,84 +104,44 @@ pub fn pow(b: f64, p: f64) -> f64
     pow_of(log_of(b), p)
 }
 
-// ---- several powers of one base, by one logarithm
-#[derive(Clone, Copy)]
-pub struct TwoPowers {
-    pub first: f64,
-    pub second: f64,
-}
-
-#[derive(Clone, Copy)]
-pub struct FourPowers {
-    pub first: f64,
-    pub second: f64,
-    pub third: f64,
-    pub fourth: f64,
-}
-
-pub fn two_powers(b: f64, p: f64, q: f64) -> TwoPowers
-    ensures { (result.first ≡ pow_of b p) × (result.second ≡ pow_of b q) }
+// Several powers of one base, by one logarithm.
+pub fn powers<const N: usize>(b: f64, exponents: [f64; N]) -> [f64; N]
+    ensures { result ≡ map (pow_of b) exponents.entry }
 {
     let l = log_of(b);
-    let first = pow_of(l, p);
-    let second = pow_of(l, q);
-    TwoPowers { first, second }
-}
-
-pub fn four_powers(b: f64, p: f64, q: f64, s: f64, t: f64) -> FourPowers
-    ensures { (result.first ≡ pow_of b p) × (result.second ≡ pow_of b q) × (result.third ≡ pow_of b s) × (result.fourth ≡ pow_of b t) }
-{
-    let l = log_of(b);
-    let first = pow_of(l, p);
-    let second = pow_of(l, q);
-    let third = pow_of(l, s);
-    let fourth = pow_of(l, t);
-    FourPowers {
-        first,
-        second,
-        third,
-        fourth,
+    let mut answers = exponents;
+    for p in &mut answers {
+        *p = pow_of(l, *p);
     }
+    answers
 }
 
 // b^-m, b^(1 - m), b^-n and b^(1 - n): at once where b is 1, as it is at a junction without voltage, and quick where these exponents
 // are fractions and the size of the logarithm is at most 700.
-pub fn fractional_powers(b: f64, m: f64, n: f64) -> FourPowers
-    ensures { (result.first ≡ pow_of b (neg m)) × (result.second ≡ pow_of b (+1 ⊖ m)) × (result.third ≡ pow_of b (neg n)) × (result.fourth ≡ pow_of b (+1 ⊖ n)) }
+pub fn fractional_powers(b: f64, m: f64, n: f64) -> [f64; 4]
+    ensures { result ≡ map (pow_of b) (neg m ∷ (+1 ⊖ m) ∷ neg n ∷ (+1 ⊖ n) ∷ []) }
 {
     if b == 1.0 {
-        return FourPowers {
-            first: 1.0,
-            second: 1.0,
-            third: 1.0,
-            fourth: 1.0,
-        };
+        return [1.0, 1.0, 1.0, 1.0];
     }
     let v = log_size(b);
-    if v <= 6305039478318694400 {
-        if fractions(m) {
-            if fractions(n) {
-                return by_digits(v, b < 1.0, m, n);
-            }
-        }
+    if v <= 6305039478318694400 && fractions(m) && fractions(n) {
+        return by_digits(v, b < 1.0, m, n);
     }
-    four_powers(b, -m, 1.0 - m, -n, 1.0 - n)
+    powers(b, [-m, 1.0 - m, -n, 1.0 - n])
 }
 
 // Whether the exponents m and 1 - m are both from 2^-53 up to 1.
 fn fractions(m: f64) -> bool
     ensures { result ≡ true → Fractional m × Fractional (+1 ⊖ m) }
 {
-    if m >= 0.00000000000000011102230246251565 {
-        return 1.0 - m >= 0.00000000000000011102230246251565;
-    }
-    false
+    m >= UNIT && 1.0 - m >= UNIT
 }
 
 // The four powers for such exponents, by the size v of the logarithm. All digits are taken before the first power, so that nothing waits.
-fn by_digits(v: u64, below: bool, m: f64, n: f64) -> FourPowers
+fn by_digits(v: u64, below: bool, m: f64, n: f64) -> [f64; 4]
     requires { (v ≤ 700 * 2 ^ 53) × ((Fractional m × Fractional (+1 ⊖ m)) × (Fractional n × Fractional (+1 ⊖ n))) }
-    ensures { (result.first ≡ pow_from (cond below (Below v) (Above v)) (neg m)) × (result.second ≡ pow_from (cond below (Below v) (Above v)) (+1 ⊖ m)) × (result.third ≡ pow_from (cond below (Below v) (Above v)) (neg n)) × (result.fourth ≡ pow_from (cond below (Below v) (Above v)) (+1 ⊖ n)) }
+    ensures { result ≡ map (pow_from (cond below (Below v) (Above v))) (neg m ∷ (+1 ⊖ m) ∷ neg n ∷ (+1 ⊖ n) ∷ []) }
 {
     let m_digits = exponent(m);
     let m_rest = exponent(1.0 - m);
@@ -200,19 +152,9 @@ fn by_digits(v: u64, below: bool, m: f64, n: f64) -> FourPowers
     let d = raise(v, n_digits);
     let e = raise(v, n_rest);
     if below {
-        return FourPowers {
-            first: a,
-            second: 1.0 / c,
-            third: d,
-            fourth: 1.0 / e,
-        };
+        return [a, 1.0 / c, d, 1.0 / e];
     }
-    FourPowers {
-        first: 1.0 / a,
-        second: c,
-        third: 1.0 / d,
-        fourth: e,
-    }
+    [1.0 / a, c, 1.0 / d, e]
 }
 
 // An exponent from 2^-53 up to 1, in units of 2^-61.

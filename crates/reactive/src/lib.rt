@@ -4,7 +4,7 @@
 ghost use Rattle.std.specs.Prelude.{◌≡◌};
 ghost use Rattle.reactive.specs.Charge.{euler_of, trapezoid_of, gear_of, charge_current_of, euler_conductance_of, trapezoid_conductance_of, gear_conductance_of, scale_of, companion_of, has_step_of, recorded_of, advance_of};
 
-use device::{ChargeHistory, Discretisation, Given};
+use device::{ChargeHistory, Discretisation};
 use float::max;
 
 // A branch's current at a charge, and the factor of the charge in it.
@@ -49,6 +49,7 @@ fn gear(h: f64, h_prev: f64, q_new: f64, q_prev: f64, q2: f64) -> Branch
 }
 
 // Gear without a charge before the last is Euler. Without a step alpha is the factor.
+#[tactic(auto, unfolding(crate::specs::Charge::charge_current_of, crate::specs::Charge::gear_or_euler_of))]
 pub fn charge_current(disc: Discretisation, alpha: f64, q_new: f64, hist: ChargeHistory) -> Branch
     ensures { result ≡ charge_current_of disc alpha q_new hist }
 {
@@ -60,17 +61,14 @@ pub fn charge_current(disc: Discretisation, alpha: f64, q_new: f64, hist: Charge
         },
         Discretisation::Euler(h) => euler(h, q_new, q_prev),
         Discretisation::Trapezoid(h) => trapezoid(h, q_new, q_prev, hist.i_prev),
-        Discretisation::Gear(h, h_prev) => {
-            let before = hist.q_prev2;
-            match before {
-                Given::Value(q2) => gear(h, h_prev, q_new, q_prev, q2),
-                Given::Absent => euler(h, q_new, q_prev),
-            }
-        }
+        Discretisation::Gear(h, h_prev) => match hist.q_prev2 {
+            Some(q2) => gear(h, h_prev, q_new, q_prev, q2),
+            None => euler(h, q_new, q_prev),
+        },
     }
 }
 
-// A capacitor's conductance under each method.
+// A capacitor's conductance under each method: three formulas, as the Rust's `conductance` has them, so no one function says them plainer.
 fn euler_conductance(value: f64, h: f64) -> f64
     ensures { result ≡ euler_conductance_of value h }
 {
@@ -113,37 +111,37 @@ pub fn companion(disc: Discretisation, alpha: f64, q_new: f64, cv: f64, hist: Ch
     b.scale * cv - b.i
 }
 
+#[tactic(auto, unfolding(crate::specs::Charge::has_step_of))]
 pub fn has_step(disc: Discretisation) -> bool
     ensures { result ≡ has_step_of disc }
 {
     match disc {
         Discretisation::None => false,
-        Discretisation::Euler(_) => true,
-        Discretisation::Trapezoid(_) => true,
-        Discretisation::Gear(_, _) => true,
+        Discretisation::Euler(_) | Discretisation::Trapezoid(_) | Discretisation::Gear(_, _) =>
+            true,
     }
 }
 
 // The current that a commit records. Without a step it stays.
+#[tactic(auto, unfolding(crate::specs::Charge::recorded_of))]
 fn recorded(disc: Discretisation, q_now: f64, hist: ChargeHistory) -> f64
     ensures { result ≡ recorded_of disc q_now hist }
 {
     if has_step(disc) {
-        let b = charge_current(disc, 0.0, q_now, hist);
-        return b.i;
+        charge_current(disc, 0.0, q_now, hist).i
+    } else {
+        hist.i_prev
     }
-    hist.i_prev
 }
 
 // Past an accepted step: the current is computed before the charges move on.
+#[tactic(auto, unfolding(crate::specs::Charge::advance_of))]
 pub fn advance(disc: Discretisation, q_now: f64, hist: ChargeHistory) -> ChargeHistory
     ensures { result ≡ advance_of disc q_now hist }
 {
-    let i_prev = recorded(disc, q_now, hist);
-    let q_prev = hist.q_prev;
     ChargeHistory {
         q_prev: q_now,
-        q_prev2: Given::Value(q_prev),
-        i_prev,
+        q_prev2: Some(hist.q_prev),
+        i_prev: recorded(disc, q_now, hist),
     }
 }

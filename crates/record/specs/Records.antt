@@ -1,8 +1,7 @@
 -- The record of a device: each number as it is, each choice as a tag. A field that a tag leaves unused is 0.
 use Rattle.exact.specs.Float64.{+0}
-use Rattle.std.specs.Prelude.{ℕ}
+use Rattle.std.specs.Prelude.{ℕ, Option, Some, None, Float}
 use Rattle.device.specs.declared.NodeId.{NodeId}
-use Rattle.device.specs.declared.Given.{Given}
 use Rattle.device.specs.declared.Discretisation.{Discretisation}
 use Rattle.device.specs.declared.Stage.{Stage}
 use Rattle.device.specs.declared.Card.{Card}
@@ -11,7 +10,6 @@ use Rattle.device.specs.declared.ChargeHistory.{ChargeHistory}
 use Rattle.device.specs.declared.Histories.{Histories}
 use Rattle.device.specs.declared.Mosfet1.{Mosfet1}
 use Rattle.device.specs.declared.NodeId.TheVariants.{Ground, At}
-use Rattle.device.specs.declared.Given.TheVariants.{Absent, Value}
 use Rattle.device.specs.declared.Discretisation.TheVariants as Discretisation
 use Rattle.device.specs.declared.Stage.TheVariants as Stage
 use Rattle.record.specs.declared.NodeRecord.{NodeRecord}
@@ -27,9 +25,9 @@ unfoldable pub node_record : NodeId → NodeRecord
 node_record Ground = record { tag = 0; index = 0 }
 node_record (At i) = record { tag = 1; index = i }
 
-unfoldable pub given_record : Given → GivenRecord
-given_record Absent = record { tag = 0; value = +0 }
-given_record (Value v) = record { tag = 1; value = v }
+unfoldable pub given_record : Option Float → GivenRecord
+given_record None = record { tag = 0; value = +0 }
+given_record (Some v) = record { tag = 1; value = v }
 
 unfoldable pub method_record : Discretisation → MethodRecord
 method_record Discretisation.None = record { tag = 0; h = +0; h_prev = +0 }

@@ -2,7 +2,7 @@
 -- `space` is the lent list's length.
 use Rattle.std.specs.Prelude.{ℕ, cond, List, eqb, leb, Float}
 use Rattle.device.specs.Refusals.{Outcome, done, refused}
-use Rattle.entries.specs.Entries.{Keyed}
+use Rattle.entries.specs.declared.Keyed.{Keyed}
 use Rattle.card.specs.Card.{card_of, card_list_of}
 use Rattle.geometry.specs.Geometry.{geometry_of, geometry_list_of}
 use Rattle.record.specs.Records.{device_record}

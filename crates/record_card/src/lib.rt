@@ -2,12 +2,12 @@
 #![tactic(auto)]
 
 ghost use Rattle.std.specs.Prelude.{◌≡◌, length};
-ghost use Rattle.card.specs.Card.{outcome_of_card};
-ghost use Rattle.geometry.specs.Geometry.{outcome_of_geometry};
+ghost use Rattle.device.specs.Refusals.{outcome};
 ghost use Rattle.record_card.specs.Keys.{keys_outcome, card_call, card_call_list, geometry_call, geometry_call_list};
 
-use card::CardAnswer;
-use geometry::GeometryAnswer;
+use device::Refusal;
+use entries::Keyed;
+use key_pairs::LentKeys;
 use record::DeviceRecord;
 
 // The device after a card or geometry call, the count of unknown keys, and the number of the refusal. A refused call's device is
@@ -20,17 +20,20 @@ pub struct KeysOutcome {
     pub device: DeviceRecord,
 }
 
-fn card_outcome(old: DeviceRecord, a: CardAnswer) -> KeysOutcome
-    ensures { result ≡ keys_outcome old (outcome_of_card a) }
+// Copied into its callers: as a call it would take a whole device from memory, which a refusal fills with zeros by a call of memset.
+#[tactic(auto, unfolding(crate::specs::Keys::keys_outcome))]
+#[inline(always)]
+fn keys_outcome(old: DeviceRecord, answer: Result<Keyed, Refusal>) -> KeysOutcome
+    ensures { result ≡ keys_outcome old (outcome answer) }
 {
-    match a {
-        CardAnswer::Done(d, n) => KeysOutcome {
+    match answer {
+        Ok(keyed) => KeysOutcome {
             refusal: 0,
-            unknown: n,
-            device: record::device_record(d),
+            unknown: keyed.unknown,
+            device: DeviceRecord::from(keyed.device),
         },
-        CardAnswer::Refused(n) => KeysOutcome {
-            refusal: record::wide(n),
+        Err(refusal) => KeysOutcome {
+            refusal: record::wide(u8::from(refusal)),
             unknown: 0,
             device: old,
         },
@@ -38,6 +41,7 @@ fn card_outcome(old: DeviceRecord, a: CardAnswer) -> KeysOutcome
 }
 
 // A card read into the caller's record, whatever that held: `polarity` is 0 for NMOS and 1 for PMOS.
+#[tactic(auto, unfolding(crate::specs::Keys::card_call, crate::specs::Keys::card_call_list, crate::specs::Keys::keys_outcome))]
 pub fn from_model_params(
     old: DeviceRecord,
     polarity: u64,
@@ -51,34 +55,19 @@ pub fn from_model_params(
         × (unknown.new ≡ card_call_list polarity bytes.now offsets.now lengths.now values.now unknown.old) }
 {
     if 1 < polarity {
-        return KeysOutcome {
-            refusal: 100,
-            unknown: 0,
-            device: old,
-        };
+        return keys_outcome(old, Err(Refusal::Tag));
     }
     let is_pmos = polarity == 1;
-    let a = card::from_model_params(is_pmos, bytes, offsets, lengths, values, unknown);
-    card_outcome(old, a)
+    let lent = LentKeys {
+        bytes,
+        offsets,
+        lengths,
+        values,
+    };
+    keys_outcome(old, card::from_model_params(is_pmos, lent, unknown))
 }
 
-fn geometry_outcome(r: DeviceRecord, a: GeometryAnswer) -> KeysOutcome
-    ensures { result ≡ keys_outcome r (outcome_of_geometry a) }
-{
-    match a {
-        GeometryAnswer::Done(d, n) => KeysOutcome {
-            refusal: 0,
-            unknown: n,
-            device: record::device_record(d),
-        },
-        GeometryAnswer::Refused(n) => KeysOutcome {
-            refusal: record::wide(n),
-            unknown: 0,
-            device: r,
-        },
-    }
-}
-
+#[tactic(auto, unfolding(crate::specs::Keys::geometry_call, crate::specs::Keys::geometry_call_list, crate::specs::Keys::keys_outcome))]
 pub fn set_instance_params(
     r: DeviceRecord,
     bytes: &[u8],
@@ -91,13 +80,14 @@ pub fn set_instance_params(
         × (unknown.new ≡ geometry_call_list r bytes.now offsets.now lengths.now values.now unknown.old) }
 {
     if !from_record::good_tags(r) {
-        return KeysOutcome {
-            refusal: 100,
-            unknown: 0,
-            device: r,
-        };
+        return keys_outcome(r, Err(Refusal::Tag));
     }
-    let d = from_record::device_from(r);
-    let a = geometry::set_instance_params(d, bytes, offsets, lengths, values, unknown);
-    geometry_outcome(r, a)
+    let device = from_record::device_from(r);
+    let lent = LentKeys {
+        bytes,
+        offsets,
+        lengths,
+        values,
+    };
+    keys_outcome(r, geometry::set_instance_params(device, lent, unknown))
 }

@@ -2,7 +2,7 @@
 #![tactic(auto)]
 
 ghost use Rattle.std.specs.Prelude.{◌≡◌};
-ghost use Rattle.matrix_layout.specs.MatrixLayout.{outcome_of_extra_nodes, outcome_of_layout};
+ghost use Rattle.device.specs.Refusals.{outcome};
 ghost use Rattle.record_layout.specs.Layout.{
   count_outcome,
   extra_nodes_needed_call,
@@ -13,7 +13,8 @@ ghost use Rattle.record_layout.specs.Layout.{
   layout_lengths,
 };
 
-use matrix_layout::{ExtraNodesAnswer, LayoutAnswer};
+use cell_pattern::Needed;
+use device::Refusal;
 use record::DeviceRecord;
 use record_setup::CountOutcome;
 
@@ -26,22 +27,24 @@ pub struct LayoutOutcome {
     pub rows: usize,
 }
 
-fn count_outcome(a: ExtraNodesAnswer) -> CountOutcome
-    ensures { result ≡ count_outcome (outcome_of_extra_nodes a) }
+#[tactic(auto, unfolding(crate::specs::Layout::count_outcome))]
+fn count_outcome(a: Result<usize, Refusal>) -> CountOutcome
+    ensures { result ≡ count_outcome (outcome a) }
 {
     match a {
-        ExtraNodesAnswer::Nodes(n) => CountOutcome {
+        Ok(n) => CountOutcome {
             refusal: 0,
             count: n,
         },
-        ExtraNodesAnswer::Refused(n) => CountOutcome {
-            refusal: record::wide(n),
+        Err(row) => CountOutcome {
+            refusal: record::wide(u8::from(row)),
             count: 0,
         },
     }
 }
 
 // How many nodes beyond the four terminals a binding takes; refused before the first geometry call.
+#[tactic(auto, unfolding(crate::specs::Layout::extra_nodes_needed_call))]
 pub fn extra_nodes(r: DeviceRecord) -> CountOutcome
     ensures { result ≡ extra_nodes_needed_call r }
 {
@@ -56,17 +59,18 @@ pub fn extra_nodes(r: DeviceRecord) -> CountOutcome
     count_outcome(a)
 }
 
-fn layout_outcome(a: LayoutAnswer) -> LayoutOutcome
-    ensures { result ≡ layout_outcome (outcome_of_layout a) }
+#[tactic(auto, unfolding(crate::specs::Layout::layout_outcome))]
+fn layout_outcome(a: Result<Needed, Refusal>) -> LayoutOutcome
+    ensures { result ≡ layout_outcome (outcome a) }
 {
     match a {
-        LayoutAnswer::Lengths(needed) => LayoutOutcome {
+        Ok(needed) => LayoutOutcome {
             refusal: 0,
             columns: needed.columns,
             rows: needed.rows,
         },
-        LayoutAnswer::Refused(number) => LayoutOutcome {
-            refusal: record::wide(number),
+        Err(refusal) => LayoutOutcome {
+            refusal: record::wide(u8::from(refusal)),
             columns: 0,
             rows: 0,
         },

@@ -10,6 +10,7 @@ ghost use Rattle.resolve.specs.Resolve.{no_cells};
 ghost use Rattle.record_resolved.specs.Resolved.{resolve_call};
 ghost use Rattle.record_resolved.specs.Steps.{resolved_number, static_side, static_matrix, charged_side, charged_matrix};
 
+use pattern::Pattern;
 use places::Nodes;
 use record::{DeviceRecord, TerminalsRecord};
 use std::num::wrapping_sub_u64;
@@ -22,19 +23,20 @@ pub struct ResolveOutcome {
     pub cells: [usize; 37],
 }
 
-fn unknown_tag() -> ResolveOutcome
-    ensures { (result.refusal ≡ 100) × (result.cells ≡ no_cells) }
+// Zeros, and the number of a refusal. `[0; 37]` would be a call of memset, and the library is to need no symbol but memcpy.
+fn refused(refusal: u64) -> ResolveOutcome
+    ensures { (result.refusal ≡ refusal) × (result.cells ≡ no_cells) }
 {
-    let cells = [
-        0, 0, 0, 0, 0, 0, 0, 0, 0, 0, 0, 0, 0, 0, 0, 0, 0, 0, 0, 0, 0, 0, 0, 0, 0, 0, 0, 0, 0, 0,
-        0, 0, 0, 0, 0, 0, 0,
-    ];
     ResolveOutcome {
-        refusal: 100,
-        cells,
+        refusal,
+        cells: [
+            0, 0, 0, 0, 0, 0, 0, 0, 0, 0, 0, 0, 0, 0, 0, 0, 0, 0, 0, 0, 0, 0, 0, 0, 0, 0, 0, 0, 0,
+            0, 0, 0, 0, 0, 0, 0, 0,
+        ],
     }
 }
 
+#[tactic(auto, unfolding(crate::specs::Resolved::resolve_call))]
 pub fn resolve(
     r: DeviceRecord,
     columns: &[u32],
@@ -45,14 +47,17 @@ pub fn resolve(
         × (result.cells ≡ values_or no_cells (resolve_call r (record { columns = columns.now; offsets = offsets.now; lengths = lengths.now }))) }
 {
     if !from_record::good_tags(r) {
-        return unknown_tag();
+        return refused(100);
     }
     let d = from_record::device_from(r);
-    let a = resolve::resolve(d, columns, offsets, lengths);
-    let cells = a.cells;
-    ResolveOutcome {
-        refusal: record::wide(a.row),
-        cells,
+    let pattern = Pattern {
+        columns,
+        offsets,
+        lengths,
+    };
+    match resolve::resolve(d, pattern) {
+        Ok(cells) => ResolveOutcome { refusal: 0, cells },
+        Err(refusal) => refused(record::wide(u8::from(refusal))),
     }
 }
 
@@ -80,15 +85,6 @@ fn node_numbers(t: TerminalsRecord) -> Nodes
     }
 }
 
-fn smaller(a: usize, b: usize) -> usize
-    ensures { (result ≤ a) × (result ≤ b) }
-{
-    if a < b {
-        return a;
-    }
-    b
-}
-
 // The row that refuses a load by cells into so many rows and so many values, 0 where none does; 100 where a tag is unknown. A load is
 // three steps, this and the two below, so that its caller can copy the record for each: the compiler then reads of it what a step
 // needs when it needs it.
@@ -111,8 +107,8 @@ pub fn row(
     let d = from_record::device_from(r);
     let kind = record_loading::kind_from(transient, alpha);
     let n = node_numbers(r.terminals);
-    let inside = from_record::indices(r.terminals) < smaller(rhs, cells[6]);
-    record::wide(resolved_rows::resolved_row(n, d, kind, inside, cells, rhs, values))
+    let inside = from_record::indices(r.terminals) < rhs.min(cells[6]);
+    record::number(resolved_rows::resolved_row(n, d, kind, inside, cells, rhs, values))
 }
 
 // The channel, the resistances and the junctions, where no row refuses. `transient` and `alpha` are asked for so that `row` can be said

@@ -2,11 +2,11 @@
 #![tactic(auto)]
 
 ghost use Rattle.std.specs.Prelude.{◌≡◌};
-ghost use Rattle.setup.specs.Scaling.{outcome_of_setup};
+ghost use Rattle.device.specs.Refusals.{outcome};
 ghost use Rattle.record_setup.specs.Setup.{setup_outcome, scaling_call, good_nodes, bound_by, binding_call, extra_nodes_call};
 
+use device::{Mosfet1, Refusal};
 use record::{DeviceOutcome, DeviceRecord, NodeRecord};
-use setup::SetupAnswer;
 use temperature::Kelvin;
 
 // A count, and the number of the refusal.
@@ -27,67 +27,60 @@ pub struct NodesRecord {
     pub bulk: NodeRecord,
 }
 
-fn setup_outcome(r: DeviceRecord, a: SetupAnswer) -> DeviceOutcome
-    ensures { result ≡ setup_outcome r (outcome_of_setup a) }
+// Copied into its callers: as a call it would take a whole device from memory, which a refusal fills with zeros by a call of memset.
+#[tactic(auto, unfolding(crate::specs::Setup::setup_outcome))]
+#[inline(always)]
+fn setup_outcome(r: DeviceRecord, answer: Result<Mosfet1, Refusal>) -> DeviceOutcome
+    ensures { result ≡ setup_outcome r (outcome answer) }
 {
-    match a {
-        SetupAnswer::Done(d) => DeviceOutcome {
+    match answer {
+        Ok(device) => DeviceOutcome {
             refusal: 0,
-            device: record::device_record(d),
+            device: DeviceRecord::from(device),
         },
-        SetupAnswer::Refused(n) => DeviceOutcome {
-            refusal: record::wide(n),
+        Err(refusal) => DeviceOutcome {
+            refusal: record::wide(u8::from(refusal)),
             device: r,
         },
     }
 }
 
 // The temperature is in kelvin.
+#[tactic(auto, unfolding(crate::specs::Setup::scaling_call, crate::specs::Setup::setup_outcome))]
 pub fn setup_model(r: DeviceRecord, temperature: f64) -> DeviceOutcome
     ensures { result ≡ scaling_call r temperature }
 {
     if !from_record::good_tags(r) {
-        return DeviceOutcome {
-            refusal: 100,
-            device: r,
-        };
+        return setup_outcome(r, Err(Refusal::Tag));
     }
-    let d = from_record::device_from(r);
-    let a = setup::setup_model(d, Kelvin(temperature));
-    setup_outcome(r, a)
+    let answer = setup::setup_model(from_record::device_from(r), Kelvin(temperature));
+    setup_outcome(r, answer)
 }
 
+#[tactic(auto, unfolding(crate::specs::Setup::extra_nodes_call))]
 pub fn num_extra_nodes(r: DeviceRecord) -> CountOutcome
     ensures { result ≡ extra_nodes_call r }
 {
     if !from_record::good_tags(r) {
         return CountOutcome {
-            refusal: 100,
+            refusal: record::wide(u8::from(Refusal::Tag)),
             count: 0,
         };
     }
-    let d = from_record::device_from(r);
-    let count = setup::num_extra_nodes(d);
+    let count = setup::num_extra_nodes(from_record::device_from(r));
     CountOutcome { refusal: 0, count }
 }
 
+#[tactic(auto, unfolding(crate::specs::Setup::good_nodes))]
 fn good_nodes(n: NodesRecord) -> bool
     ensures { result ≡ good_nodes n }
 {
-    if 1 < n.drain.tag {
-        return false;
-    }
-    if 1 < n.gate.tag {
-        return false;
-    }
-    if 1 < n.source.tag {
-        return false;
-    }
-    n.bulk.tag <= 1
+    n.drain.tag <= 1 && n.gate.tag <= 1 && n.source.tag <= 1 && n.bulk.tag <= 1
 }
 
-fn bind(r: DeviceRecord, n: NodesRecord, first: usize) -> SetupAnswer
-    ensures { outcome_of_setup result ≡ bound_by r n first }
+#[tactic(auto, unfolding(crate::specs::Setup::bound_by))]
+fn bind(r: DeviceRecord, n: NodesRecord, first: usize) -> Result<Mosfet1, Refusal>
+    ensures { outcome result ≡ bound_by r n first }
 {
     let d = from_record::device_from(r);
     let to_drain = from_record::node_from(n.drain);
@@ -98,21 +91,12 @@ fn bind(r: DeviceRecord, n: NodesRecord, first: usize) -> SetupAnswer
 }
 
 // Binds to four nodes, and to the extra nodes from `first` on.
+#[tactic(auto, unfolding(crate::specs::Setup::binding_call, crate::specs::Setup::setup_outcome))]
 pub fn setup_instance(r: DeviceRecord, n: NodesRecord, first: usize) -> DeviceOutcome
     ensures { result ≡ binding_call r n first }
 {
-    if !from_record::good_tags(r) {
-        return DeviceOutcome {
-            refusal: 100,
-            device: r,
-        };
+    if !from_record::good_tags(r) || !good_nodes(n) {
+        return setup_outcome(r, Err(Refusal::Tag));
     }
-    if !good_nodes(n) {
-        return DeviceOutcome {
-            refusal: 100,
-            device: r,
-        };
-    }
-    let a = bind(r, n, first);
-    setup_outcome(r, a)
+    setup_outcome(r, bind(r, n, first))
 }

@@ -1,11 +1,11 @@
 -- Noise and reactances of a device that is a record: a record with an unknown tag is refused under 100, any other as its device is.
-use Rattle.std.specs.Prelude.{ℕ, cond, List, [], ◌∷◌, Float}
+use Rattle.std.specs.Prelude.{ℕ, cond, Float, Option, Some, None}
 use Rattle.exact.specs.Float64.{+0}
 use Rattle.device.specs.Refusals.{Outcome, done, refused}
-use Rattle.model.specs.SmallSignal.{NoiseSource, noise_of, reactances_of}
-use Rattle.model.specs.declared.small_signal.Reactance.{Reactance}
-use Rattle.model.specs.declared.small_signal.Reactance.TheVariants as Reactance
-use Rattle.model.specs.declared.small_signal.FiveReactances.{FiveReactances}
+use Rattle.model.specs.SmallSignal.{noise_of, reactances_of}
+use Rattle.model.specs.declared.small_signal.NoiseSource.{NoiseSource}
+use Rattle.model.specs.declared.small_signal.Capacitor.{Capacitor}
+use Rattle.model.specs.declared.small_signal.Reactances.{Reactances}
 use Rattle.record.specs.Records.{node_record}
 use Rattle.record.specs.declared.DeviceRecord.{DeviceRecord}
 use Rattle.record.specs.declared.NodeRecord.{NodeRecord}
@@ -22,13 +22,12 @@ ground_record = record { tag = 0; index = 0 }
 unfoldable pub noise_refused : ℕ → NoiseOutcome
 noise_refused n = record { refusal = n; tag = 0; drain = ground_record; source = ground_record; density = +0 }
 
--- the first source of a list, of which there is at most one
-unfoldable pub noise_record : List NoiseSource → NoiseOutcome
-noise_record [] = noise_refused 0
-noise_record (s ∷ others) = record { refusal = 0; tag = 1; drain = node_record s.pos; source = node_record s.neg; density = s.density }
+unfoldable pub noise_record : Option NoiseSource → NoiseOutcome
+noise_record None = noise_refused 0
+noise_record (Some s) = record { refusal = 0; tag = 1; drain = node_record s.pos; source = node_record s.neg; density = s.density }
 
-unfoldable pub noise_outcome : Outcome (List NoiseSource) → NoiseOutcome
-noise_outcome (done sources) = noise_record sources
+unfoldable pub noise_outcome : Outcome (Option NoiseSource) → NoiseOutcome
+noise_outcome (done source) = noise_record source
 noise_outcome (refused n) = noise_refused n
 
 -- the temperature is in kelvin
@@ -38,11 +37,11 @@ noise_call r t freq = cond (good_tags r) (noise_outcome (noise_of (device_from r
 unfoldable pub no_reactance : ReactanceRecord
 no_reactance = record { tag = 0; pos = ground_record; neg = ground_record; capacitance = +0 }
 
-unfoldable pub reactance_record : Reactance → ReactanceRecord
-reactance_record Reactance.Absent = no_reactance
-reactance_record (Reactance.Capacitor a b c) = record { tag = 1; pos = node_record a; neg = node_record b; capacitance = c }
+unfoldable pub reactance_record : Option Capacitor → ReactanceRecord
+reactance_record None = no_reactance
+reactance_record (Some c) = record { tag = 1; pos = node_record c.pos; neg = node_record c.neg; capacitance = c.capacitance }
 
-unfoldable pub five_record : FiveReactances → ReactancesOutcome
+unfoldable pub five_record : Reactances → ReactancesOutcome
 five_record f =
     record {
       refusal = 0;
@@ -57,7 +56,7 @@ unfoldable pub reactances_refused : ℕ → ReactancesOutcome
 reactances_refused n =
     record { refusal = n; gs = no_reactance; gd = no_reactance; gb = no_reactance; bs = no_reactance; bd = no_reactance }
 
-unfoldable pub reactances_outcome : Outcome FiveReactances → ReactancesOutcome
+unfoldable pub reactances_outcome : Outcome Reactances → ReactancesOutcome
 reactances_outcome (done five) = five_record five
 reactances_outcome (refused n) = reactances_refused n
 

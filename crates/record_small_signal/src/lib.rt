@@ -2,10 +2,11 @@
 #![tactic(auto)]
 
 ghost use Rattle.std.specs.Prelude.{◌≡◌};
-ghost use Rattle.model.specs.SmallSignal.{outcome_of_noise, outcome_of_reactances};
+ghost use Rattle.device.specs.Refusals.{outcome};
 ghost use Rattle.record_small_signal.specs.SmallSignal.{noise_refused, noise_outcome, noise_call, no_reactance, reactance_record, five_record, reactances_refused, reactances_outcome, reactances_call};
 
-use model::small_signal::{FiveReactances, Noise, Reactance, Reactances};
+use device::Refusal;
+use model::small_signal::{Capacitor, NoiseSource, Reactances};
 use record::{DeviceRecord, NodeRecord};
 use temperature::Kelvin;
 
@@ -42,6 +43,7 @@ pub struct ReactancesOutcome {
 }
 
 // No source: the number of the refusal, or 0.
+#[tactic(auto, unfolding(crate::specs::SmallSignal::noise_refused))]
 fn noise_refused(n: u64) -> NoiseOutcome
     ensures { result ≡ noise_refused n }
 {
@@ -55,34 +57,36 @@ fn noise_refused(n: u64) -> NoiseOutcome
     }
 }
 
-fn noise_outcome(a: Noise) -> NoiseOutcome
-    ensures { result ≡ noise_outcome (outcome_of_noise a) }
+#[tactic(auto, unfolding(crate::specs::SmallSignal::noise_outcome, crate::specs::SmallSignal::noise_record))]
+fn noise_outcome(a: Result<Option<NoiseSource>, Refusal>) -> NoiseOutcome
+    ensures { result ≡ noise_outcome (outcome a) }
 {
     match a {
-        Noise::Quiet => noise_refused(0),
-        Noise::Source(drain, source, density) => NoiseOutcome {
+        Ok(None) => noise_refused(0),
+        Ok(Some(source)) => NoiseOutcome {
             refusal: 0,
             tag: 1,
-            drain: record::node_record(drain),
-            source: record::node_record(source),
-            density,
+            drain: record::node_record(source.pos),
+            source: record::node_record(source.neg),
+            density: source.density,
         },
-        Noise::Refused(n) => noise_refused(record::wide(n)),
+        Err(refusal) => noise_refused(record::wide(u8::from(refusal))),
     }
 }
 
 // The temperature is in kelvin.
+#[tactic(auto, unfolding(crate::specs::SmallSignal::noise_call))]
 pub fn noise_sources(r: DeviceRecord, temperature: f64, freq: f64) -> NoiseOutcome
     ensures { result ≡ noise_call r temperature freq }
 {
     if !from_record::good_tags(r) {
-        return noise_refused(100);
+        return noise_refused(record::wide(u8::from(Refusal::Tag)));
     }
     let d = from_record::device_from(r);
-    let a = small_signal::noise_sources(d, Kelvin(temperature), freq);
-    noise_outcome(a)
+    noise_outcome(small_signal::noise_sources(d, Kelvin(temperature), freq))
 }
 
+#[tactic(auto, unfolding(crate::specs::SmallSignal::no_reactance))]
 fn no_reactance() -> ReactanceRecord
     ensures { result ≡ no_reactance }
 {
@@ -95,38 +99,36 @@ fn no_reactance() -> ReactanceRecord
     }
 }
 
-fn reactance_record(a: Reactance) -> ReactanceRecord
+#[tactic(auto, unfolding(crate::specs::SmallSignal::reactance_record))]
+fn reactance_record(a: Option<Capacitor>) -> ReactanceRecord
     ensures { result ≡ reactance_record a }
 {
     match a {
-        Reactance::Absent => no_reactance(),
-        Reactance::Capacitor(pos, neg, capacitance) => ReactanceRecord {
+        None => no_reactance(),
+        Some(c) => ReactanceRecord {
             tag: 1,
-            pos: record::node_record(pos),
-            neg: record::node_record(neg),
-            capacitance,
+            pos: record::node_record(c.pos),
+            neg: record::node_record(c.neg),
+            capacitance: c.capacitance,
         },
     }
 }
 
-fn five_record(five: FiveReactances) -> ReactancesOutcome
+#[tactic(auto, unfolding(crate::specs::SmallSignal::five_record))]
+fn five_record(five: Reactances) -> ReactancesOutcome
     ensures { result ≡ five_record five }
 {
-    let gs = five.gs;
-    let gd = five.gd;
-    let gb = five.gb;
-    let bs = five.bs;
-    let bd = five.bd;
     ReactancesOutcome {
         refusal: 0,
-        gs: reactance_record(gs),
-        gd: reactance_record(gd),
-        gb: reactance_record(gb),
-        bs: reactance_record(bs),
-        bd: reactance_record(bd),
+        gs: reactance_record(five.gs),
+        gd: reactance_record(five.gd),
+        gb: reactance_record(five.gb),
+        bs: reactance_record(five.bs),
+        bd: reactance_record(five.bd),
     }
 }
 
+#[tactic(auto, unfolding(crate::specs::SmallSignal::reactances_refused))]
 fn reactances_refused(n: u64) -> ReactancesOutcome
     ensures { result ≡ reactances_refused n }
 {
@@ -141,22 +143,22 @@ fn reactances_refused(n: u64) -> ReactancesOutcome
     }
 }
 
-fn reactances_outcome(a: Reactances) -> ReactancesOutcome
-    ensures { result ≡ reactances_outcome (outcome_of_reactances a) }
+#[tactic(auto, unfolding(crate::specs::SmallSignal::reactances_outcome))]
+fn reactances_outcome(a: Result<Reactances, Refusal>) -> ReactancesOutcome
+    ensures { result ≡ reactances_outcome (outcome a) }
 {
     match a {
-        Reactances::Found(five) => five_record(five),
-        Reactances::Refused(n) => reactances_refused(record::wide(n)),
+        Ok(five) => five_record(five),
+        Err(refusal) => reactances_refused(record::wide(u8::from(refusal))),
     }
 }
 
+#[tactic(auto, unfolding(crate::specs::SmallSignal::reactances_call))]
 pub fn small_signal_reactances(r: DeviceRecord) -> ReactancesOutcome
     ensures { result ≡ reactances_call r }
 {
     if !from_record::good_tags(r) {
-        return reactances_refused(100);
+        return reactances_refused(record::wide(u8::from(Refusal::Tag)));
     }
-    let d = from_record::device_from(r);
-    let a = small_signal::small_signal_reactances(d);
-    reactances_outcome(a)
+    reactances_outcome(small_signal::small_signal_reactances(from_record::device_from(r)))
 }

@@ -1,6 +1,6 @@
 -- Evaluation and commit of a device that is a record: a record with an unknown tag is refused under 100, any other as its device is.
 -- What a call does not change stays in the record as it was handed in, unused fields too.
-use Rattle.std.specs.Prelude.{ℕ, Bool, true, cond, ◌&&◌, List, eqb, leb, Float}
+use Rattle.std.specs.Prelude.{ℕ, Bool, true, cond, ◌&&◌, List, eqb, leb, Float, Option, Some, None}
 use Rattle.exact.specs.Float64.{+0}
 use Rattle.bias.specs.declared.Answer.{Answer}
 use Rattle.bias.specs.declared.Voltages.{Voltages}
@@ -24,11 +24,7 @@ use Rattle.record_steps.specs.declared.ConditionsRecord.{ConditionsRecord}
 use Rattle.record_steps.specs.declared.EvaluationReply.{EvaluationReply}
 use Rattle.record_steps.specs.declared.Reading.{Reading}
 use Rattle.record_steps.specs.declared.EvaluationChanges.{EvaluationChanges}
-use Rattle.record_steps.specs.declared.ChangesOrRefusal.{ChangesOrRefusal}
-use Rattle.record_steps.specs.declared.ChangesOrRefusal.TheVariants.{Transient, DirectCurrent, Refusal}
 use Rattle.record_steps.specs.declared.CommitChanges.{CommitChanges}
-use Rattle.record_steps.specs.declared.CommitAnswer.{CommitAnswer}
-use Rattle.record_steps.specs.declared.CommitAnswer.TheVariants as CommitAnswer
 
 unfoldable pub good_conditions : ConditionsRecord → Bool
 good_conditions k = leb k.limiter 1 && leb k.transient 1 && leb k.method.tag 3
@@ -88,43 +84,36 @@ eval_call r x k =
 unfoldable pub reply_of : EvaluationOutcome → EvaluationReply
 reply_of o = record { refusal = o.refusal; answer = o.answer }
 
--- What an evaluation reads: 100 for an unknown tag, otherwise the row that refuses it; where none does, 0, the inner nodes' voltages and
--- the thermal voltage
-unfoldable pub refused_reading : ℕ → Reading
-refused_reading n = record { row = n; voltages = record { vd = +0; vg = +0; vs = +0; vb = +0 }; vt = +0 }
+-- What an evaluation reads from the voltages on: the inner nodes' and the thermal voltage, or the row that refuses it
+unfoldable pub read_at_of : Voltages → Float → Discretisation → Outcome Reading
+read_at_of v vt method = cond (eqb (last_row_of v method) 0) (done (record { voltages = v; vt = vt })) (refused (last_row_of v method))
 
--- the same from the voltages on
-unfoldable pub read_at_of : Voltages → Float → Discretisation → Reading
-read_at_of v vt method = cond (eqb (last_row_of v method) 0) (record { row = 0; voltages = v; vt = vt }) (refused_reading (last_row_of v method))
+unfoldable pub read_of : Mosfet1 → List Float → Conditions → Outcome Reading
+read_of d x k =
+    unless (eval_rows d.stage d.terminals x k.temperature k.gmin k.method) refused
+    (done (record { voltages = voltages_of x d.terminals; vt = thermal_voltage_of k.temperature }))
 
-unfoldable pub read_of : Mosfet1 → List Float → Conditions → Reading
-read_of d x k = unless (eval_rows d.stage d.terminals x k.temperature k.gmin k.method) refused_reading (record { row = 0; voltages = voltages_of x d.terminals; vt = thermal_voltage_of k.temperature })
+-- 100 for an unknown tag
+unfoldable pub reading_of : DeviceRecord → List Float → ConditionsRecord → Outcome Reading
+reading_of r x k = cond (good_tags r) (cond (good_conditions k) (read_of (device_from r) x (conditions_from k)) (refused 100)) (refused 100)
 
-unfoldable pub reading_of : DeviceRecord → List Float → ConditionsRecord → Reading
-reading_of r x k = cond (good_tags r) (cond (good_conditions k) (read_of (device_from r) x (conditions_from k)) (refused_reading 100)) (refused_reading 100)
-
--- what an evaluation gives to be stored, the charges aside: the reply with the parts that it changes
+-- what an evaluation gives to be stored, the charges aside: the answer with the parts that it changes
 unfoldable pub changes_at : DeviceRecord → Reading → ConditionsRecord → EvaluationChanges
 changes_at r at k =
     let a = evaluated_answer_of (device_from r) at.voltages k.gmin (eqb k.limiter 1) in
     record {
-      reply = record { refusal = 0; answer = a };
+      answer = a;
       point = point_at (device_from r) at.voltages at.vt k.gmin a;
       method = method_record (method_from k.method);
     }
 
--- from what was read: what changes, to which with the transient flag the charges come, or, where it is refused, the reply alone
-unfoldable pub evaluate_of : DeviceRecord → Reading → ConditionsRecord → ChangesOrRefusal
-evaluate_of r at k =
-    cond (eqb at.row 0)
-    (cond (eqb k.transient 1)
-    (Transient (changes_at r at k))
-    (DirectCurrent (changes_at r at k)))
-    (Refusal (refused_reply at.row))
+-- the charges of an evaluation, which change with the transient flag alone
+unfoldable pub charges_from : DeviceRecord → Reading → ConditionsRecord → EvaluationChanges → Option Charges
+charges_from r at k c = cond (eqb k.transient 1) (Some (evaluated_charges_of (device_from r) at.voltages true c.answer)) None
 
--- the charges of an evaluation with the transient flag
-unfoldable pub charges_from : DeviceRecord → Reading → EvaluationChanges → Charges
-charges_from r at c = evaluated_charges_of (device_from r) at.voltages true c.reply.answer
+unfoldable pub charges_after : Charges → Option Charges → Charges
+charges_after q (Some p) = p
+charges_after q None = q
 
 -- the record with an evaluation's changes; the device is evaluated
 unfoldable pub changed_record : DeviceRecord → EvaluationChanges → Charges → DeviceRecord
@@ -141,11 +130,12 @@ changed_record r c q =
       stage = 5;
     }
 
--- the outcome of a call, from the record handed in, what was read and what the call gives to be stored
-unfoldable pub outcome_from : DeviceRecord → Reading → ChangesOrRefusal → EvaluationOutcome
-outcome_from r at (Transient c) = record { refusal = c.reply.refusal; answer = c.reply.answer; device = changed_record r c (charges_from r at c) }
-outcome_from r at (DirectCurrent c) = record { refusal = c.reply.refusal; answer = c.reply.answer; device = changed_record r c r.charges }
-outcome_from r at (Refusal y) = record { refusal = y.refusal; answer = y.answer; device = r }
+-- the outcome of a call, from the record handed in and what was read
+unfoldable pub outcome_from : DeviceRecord → ConditionsRecord → Outcome Reading → EvaluationOutcome
+outcome_from r k (done at) =
+    let c = changes_at r at k in
+    record { refusal = 0; answer = c.answer; device = changed_record r c (charges_after r.charges (charges_from r at k c)) }
+outcome_from r k (refused n) = refused_evaluation r n
 
 -- the record after a commit that leaves the device d
 unfoldable pub committed_record : DeviceRecord → Mosfet1 → DeviceRecord
@@ -184,15 +174,15 @@ advanced_record r c =
       stage = r.stage;
     }
 
--- what a commit gives to be stored: the parts that it changes, or, where it is refused, the number alone
-unfoldable pub commit_given : Outcome Mosfet1 → CommitAnswer
-commit_given (done e) = CommitAnswer.Changes (record { point = e.point; histories = histories_record e.histories })
-commit_given (refused n) = CommitAnswer.Refusal n
+-- what a commit gives to be stored: the parts that it changes
+unfoldable pub commit_given : Outcome Mosfet1 → Outcome CommitChanges
+commit_given (done e) = done (record { point = e.point; histories = histories_record e.histories })
+commit_given (refused n) = refused n
 
-unfoldable pub commit_record_of : DeviceRecord → List Float → CommitAnswer
-commit_record_of r x = cond (good_tags r) (commit_given (commit_of (device_from r) x)) (CommitAnswer.Refusal 100)
+unfoldable pub commit_record_of : DeviceRecord → List Float → Outcome CommitChanges
+commit_record_of r x = cond (good_tags r) (commit_given (commit_of (device_from r) x)) (refused 100)
 
 -- the outcome of a call, from the record handed in and what the call gives to be stored
-unfoldable pub commit_outcome_from : DeviceRecord → CommitAnswer → DeviceOutcome
-commit_outcome_from r (CommitAnswer.Changes c) = record { refusal = 0; device = advanced_record r c }
-commit_outcome_from r (CommitAnswer.Refusal n) = record { refusal = n; device = r }
+unfoldable pub commit_outcome_from : DeviceRecord → Outcome CommitChanges → DeviceOutcome
+commit_outcome_from r (done c) = record { refusal = 0; device = advanced_record r c }
+commit_outcome_from r (refused n) = record { refusal = n; device = r }

@@ -3,15 +3,13 @@
 
 ghost use Rattle.std.specs.Prelude.{◌<◌, ◌≡◌, false, length};
 ghost use Rattle.device.specs.Nodes.{any_node_beyond};
-ghost use Rattle.device.specs.Stages.{unbound};
+ghost use Rattle.device.specs.Refusals.{number_of, outcome};
 ghost use Rattle.rows.specs.Rows.{node_voltage_of, voltages_of, row11_of};
-ghost use Rattle.model.specs.Calls.{outcome_of_commit};
-ghost use Rattle.from_record.specs.Devices.{node_from, method_from, stage_from, terminals_from, device_from};
-ghost use Rattle.record_steps.specs.Steps.{good_conditions, conditions_from, refused_reply, refused_reading, read_at_of, read_of, reading_of, changes_at, evaluate_of, charges_from, commit_given, commit_record_of};
+ghost use Rattle.from_record.specs.Devices.{node_from, method_from, terminals_from, device_from};
+ghost use Rattle.record_steps.specs.Steps.{good_conditions, conditions_from, refused_reply, read_at_of, read_of, reading_of, changes_at, charges_from, commit_record_of};
 
 use bias::{Answer, Voltages};
-use device::{Charges, Mosfet1, OperatingPoint};
-use model::calls::Commit;
+use device::{Charges, Mosfet1, OperatingPoint, Refusal};
 use record::{DeviceRecord, HistoriesRecord, MethodRecord, NodeRecord, TerminalsRecord};
 use temperature::Kelvin;
 
@@ -34,30 +32,21 @@ pub struct EvaluationReply {
     pub answer: Answer,
 }
 
-// What an evaluation reads before it works anything out: the row that refuses it, 0 where none does, and then the voltages of the inner
-// nodes and the thermal voltage. That is a division on which the junctions wait, so it is begun before the rows are asked.
+// What an evaluation reads before it works anything out: the voltages of the inner nodes and the thermal voltage. That is a division on
+// which the junctions wait, so it is begun before the rows are asked.
 #[derive(Clone, Copy)]
 pub struct Reading {
-    pub row: u64,
     pub voltages: Voltages,
     pub vt: f64,
 }
 
-// The reply of an accepted evaluation, and the parts of the record that it changes with the transient flag and without. The stage of
+// The answer of an accepted evaluation, and the parts of the record that it changes with the transient flag and without. The stage of
 // an evaluated device is known, and the charges are worked out apart.
 #[derive(Clone, Copy)]
 pub struct EvaluationChanges {
-    pub reply: EvaluationReply,
+    pub answer: Answer,
     pub point: OperatingPoint,
     pub method: MethodRecord,
-}
-
-// A refused evaluation changes no part of the record: there is its reply alone. So nobody has to store what did not change.
-#[derive(Clone, Copy)]
-pub enum ChangesOrRefusal {
-    Transient(EvaluationChanges),
-    DirectCurrent(EvaluationChanges),
-    Refusal(EvaluationReply),
 }
 
 // The parts of the record that an accepted commit changes.
@@ -67,31 +56,20 @@ pub struct CommitChanges {
     pub histories: HistoriesRecord,
 }
 
-// A refused commit changes no part of the record either: there is its number alone.
-#[derive(Clone, Copy)]
-pub enum CommitAnswer {
-    Changes(CommitChanges),
-    Refusal(u64),
-}
-
+#[tactic(auto, unfolding(crate::specs::Steps::good_conditions))]
 fn good_conditions(k: ConditionsRecord) -> bool
     ensures { result ≡ good_conditions k }
 {
-    if 1 < k.limiter {
-        return false;
-    }
-    if 1 < k.transient {
-        return false;
-    }
-    k.method.tag <= 3
+    k.limiter <= 1 && k.transient <= 1 && k.method.tag <= 3
 }
 
 // A refusal answers zeros.
-fn refused_reply(n: u64) -> EvaluationReply
-    ensures { result ≡ refused_reply n }
+#[tactic(auto, unfolding(crate::specs::Steps::refused_reply))]
+pub fn refused_reply(refusal: Refusal) -> EvaluationReply
+    ensures { result ≡ refused_reply (number_of refusal) }
 {
     EvaluationReply {
-        refusal: n,
+        refusal: record::wide(u8::from(refusal)),
         answer: Answer {
             vgs: 0.0,
             vds: 0.0,
@@ -104,67 +82,37 @@ fn refused_reply(n: u64) -> EvaluationReply
     }
 }
 
-fn refused_reading(n: u64) -> Reading
-    ensures { result ≡ refused_reading n }
-{
-    Reading {
-        row: n,
-        voltages: Voltages {
-            vd: 0.0,
-            vg: 0.0,
-            vs: 0.0,
-            vb: 0.0,
-        },
-        vt: 0.0,
-    }
-}
-
-// Row 11 of the record's method. A tag above 2 is Gear's, as in `method_from`.
+// Row 11 of the record's method, by its numbers: a method made to be asked takes 3 % more instructions in an evaluation. A tag above 2 is
+// Gear's, as in `method_from`.
+#[tactic(auto, using(crate::proofs::ByNumbers::row11_by_method))]
 fn row11(m: MethodRecord) -> bool
     ensures { result ≡ row11_of (method_from m) }
 {
-    let tag = m.tag;
-    if tag == 0 {
-        return false;
-    }
-    if step_rows::bad_step(m.h) {
-        return true;
-    }
-    if tag < 3 {
-        return false;
-    }
-    step_rows::bad_step(m.h_prev)
+    m.tag != 0 && (step_rows::bad_step(m.h) || 2 < m.tag && step_rows::bad_step(m.h_prev))
 }
 
 // What is read once the voltages are known: rows 9 and 11 are about them and the method.
-fn read_at(v: Voltages, vt: f64, method: MethodRecord) -> Reading
-    ensures { result ≡ read_at_of v vt (method_from method) }
+#[tactic(auto, unfolding(crate::specs::Steps::read_at_of, step_rows::specs::StepRows::last_row_of))]
+fn read_at(v: Voltages, vt: f64, method: MethodRecord) -> Result<Reading, Refusal>
+    ensures { outcome result ≡ read_at_of v vt (method_from method) }
 {
     if step_rows::row9(v) {
-        return refused_reading(9);
+        return Err(Refusal::Voltage);
     }
     if row11(method) {
-        return refused_reading(11);
+        return Err(Refusal::Step);
     }
-    Reading {
-        row: 0,
-        voltages: v,
-        vt,
-    }
+    Ok(Reading { voltages: v, vt })
 }
 
-fn read(d: Mosfet1, x: &[f64], k: ConditionsRecord) -> Reading
-    ensures { result ≡ read_of d x.now (conditions_from k) }
+fn read(d: Mosfet1, x: &[f64], k: ConditionsRecord) -> Result<Reading, Refusal>
+    ensures { outcome result ≡ read_of d x.now (conditions_from k) }
 {
-    let stage = d.stage;
-    let n = x.len();
     let temperature = Kelvin(k.temperature);
     let vt = junction::vt(temperature);
-    let first = step_rows::first_row(stage, d.terminals, n, temperature, k.gmin);
-    if first != 0 {
-        return refused_reading(record::wide(first));
-    }
-    read_at(rows::voltages(x, d.terminals), vt, k.method)
+    step_rows::first_row(d.stage, d.terminals, x.len(), temperature, k.gmin)?;
+    let v = rows::voltages(x, d.terminals);
+    read_at(v, vt, k.method)
 }
 
 // What a node is at whose index is inside, ground's too.
@@ -172,139 +120,100 @@ fn node_voltage(x: &[f64], node: NodeRecord) -> f64
     requires { node.index < length x.now }
     ensures { result ≡ node_voltage_of x.now (node_from node) }
 {
-    let tag = node.tag;
-    let index = node.index;
-    if tag == 0 {
-        return 0.0;
-    }
-    x[index]
+    if node.tag == 0 { 0.0 } else { x[node.index] }
 }
 
+// As `rows::voltages`, of the record's own fields and with no test at each node; both stay, since one test in place of six was measured to be
+// faster (docs/PERFORMANCE.md).
+#[tactic(auto, unfolding(rows::specs::Rows::voltages_of, from_record::specs::Devices::terminals_from))]
 fn voltages_inside(x: &[f64], t: TerminalsRecord) -> Voltages
     requires { (t.drain.index < length x.now) × ((t.gate.index < length x.now) × ((t.source.index < length x.now) × (t.bulk.index < length x.now))) }
     ensures { result ≡ voltages_of x.now (terminals_from t) }
 {
-    let vd = node_voltage(x, t.drain);
-    let vg = node_voltage(x, t.gate);
-    let vs = node_voltage(x, t.source);
-    let vb = node_voltage(x, t.bulk);
-    Voltages { vd, vg, vs, vb }
-}
-
-// Whether the stage of that number is before binding: 1, 2 or 3.
-fn unbound(stage: u64) -> bool
-    ensures { result ≡ unbound (stage_from stage) }
-{
-    if 3 < stage {
-        return false;
+    Voltages {
+        vd: node_voltage(x, t.drain),
+        vg: node_voltage(x, t.gate),
+        vs: node_voltage(x, t.source),
+        vb: node_voltage(x, t.bulk),
     }
-    stage != 0
 }
 
 // The same where every index is inside: row 8 is not asked, and stage, method and voltages are read by the record's own fields.
-fn read_inside(r: DeviceRecord, x: &[f64], k: ConditionsRecord) -> Reading
+fn read_inside(r: DeviceRecord, x: &[f64], k: ConditionsRecord) -> Result<Reading, Refusal>
     requires { (any_node_beyond (length x.now) (terminals_from r.terminals) ≡ false)
         × ((r.terminals.drain.index < length x.now) × ((r.terminals.gate.index < length x.now)
         × ((r.terminals.source.index < length x.now) × (r.terminals.bulk.index < length x.now)))) }
-    ensures { result ≡ read_of (device_from r) x.now (conditions_from k) }
+    ensures { outcome result ≡ read_of (device_from r) x.now (conditions_from k) }
 {
     let temperature = Kelvin(k.temperature);
     let vt = junction::vt(temperature);
     if step_rows::row6(temperature, k.gmin) {
-        return refused_reading(6);
+        return Err(Refusal::Temperature);
     }
-    if unbound(r.stage) {
-        return refused_reading(10);
+    if from_record::device_from(r).stage.is_unbound() {
+        return Err(Refusal::Stage);
     }
-    read_at(voltages_inside(x, r.terminals), vt, k.method)
+    let v = voltages_inside(x, r.terminals);
+    read_at(v, vt, k.method)
 }
 
 // An evaluation in three steps, each with a copy of the record of its own: so the compiler reads of the record what a step needs when
 // it needs it, and keeps none of it for later. The first reads the voltages and asks the rows. The usual case, every index inside,
 // ground's too, is told by one test.
-pub fn read_voltages(r: DeviceRecord, x: &[f64], k: ConditionsRecord) -> Reading
-    ensures { result ≡ reading_of r x.now k }
+#[tactic(auto, unfolding(crate::specs::Steps::reading_of))]
+pub fn read_voltages(r: DeviceRecord, x: &[f64], k: ConditionsRecord) -> Result<Reading, Refusal>
+    ensures { outcome result ≡ reading_of r x.now k }
 {
-    if !from_record::good_tags_at_once(r) {
-        return refused_reading(100);
+    if !from_record::good_tags_at_once(r) || !good_conditions(k) {
+        return Err(Refusal::Tag);
     }
-    if !good_conditions(k) {
-        return refused_reading(100);
-    }
-    let n = x.len();
-    if from_record::indices(r.terminals) < n {
+    if from_record::indices(r.terminals) < x.len() {
         return read_inside(r, x, k);
     }
     read(from_record::device_from(r), x, k)
 }
 
-// What changes, at what was read.
-fn changes_at(r: DeviceRecord, at: Reading, k: ConditionsRecord) -> EvaluationChanges
+// The second step: `eval` of the device that the record stands for at what was read, without the charges.
+pub fn evaluate(r: DeviceRecord, at: Reading, k: ConditionsRecord) -> EvaluationChanges
     ensures { result ≡ changes_at r at k }
 {
     let d = from_record::device_from(r);
-    let limiter = k.limiter == 1;
-    let e = mosfet1::steps::answer_and_point(d, at.voltages, at.vt, k.gmin, limiter);
-    let answer = e.answer;
-    let point = e.point;
-    let method = from_record::method_from(k.method);
-    let reply = EvaluationReply { refusal: 0, answer };
+    let e = mosfet1::steps::answer_and_point(d, at.voltages, at.vt, k.gmin, k.limiter == 1);
     EvaluationChanges {
-        reply,
-        point,
-        method: record::method_record(method),
+        answer: e.answer,
+        point: e.point,
+        method: record::method_record(from_record::method_from(k.method)),
     }
 }
 
-// The second step: `eval` of the device that the record stands for, without the charges.
-pub fn evaluate(r: DeviceRecord, at: Reading, k: ConditionsRecord) -> ChangesOrRefusal
-    ensures { result ≡ evaluate_of r at k }
+// The third: with the transient flag the charges and capacitances at what the second answered. Without it they stay, and nobody has to
+// store them.
+pub fn charges(
+    r: DeviceRecord,
+    at: Reading,
+    k: ConditionsRecord,
+    c: EvaluationChanges,
+) -> Option<Charges>
+    ensures { result ≡ charges_from r at k c }
 {
-    let row = at.row;
-    if row != 0 {
-        return ChangesOrRefusal::Refusal(refused_reply(row));
-    }
-    let changes = changes_at(r, at, k);
     if k.transient == 1 {
-        return ChangesOrRefusal::Transient(changes);
+        let d = from_record::device_from(r);
+        return Some(mosfet1::steps::evaluated_charges(d, at.voltages, true, c.answer));
     }
-    ChangesOrRefusal::DirectCurrent(changes)
-}
-
-// The third, where the transient flag is set: the charges and capacitances at what the second answered.
-pub fn charges(r: DeviceRecord, at: Reading, c: EvaluationChanges) -> Charges
-    ensures { result ≡ charges_from r at c }
-{
-    let d = from_record::device_from(r);
-    let reply = c.reply;
-    mosfet1::steps::evaluated_charges(d, at.voltages, true, reply.answer)
-}
-
-fn commit_changes(a: Commit) -> CommitAnswer
-    ensures { result ≡ commit_given (outcome_of_commit a) }
-{
-    match a {
-        Commit::Done(e) => {
-            let point = e.point;
-            let histories = e.histories;
-            let changes = CommitChanges {
-                point,
-                histories: record::histories_record(histories),
-            };
-            CommitAnswer::Changes(changes)
-        }
-        Commit::Refused(n) => CommitAnswer::Refusal(record::wide(n)),
-    }
+    None
 }
 
 // `commit_timestep` of the device that the record stands for: what of the record changes.
-pub fn commit(r: DeviceRecord, x: &[f64]) -> CommitAnswer
-    ensures { result ≡ commit_record_of r x.now }
+pub fn commit(r: DeviceRecord, x: &[f64]) -> Result<CommitChanges, Refusal>
+    ensures { outcome result ≡ commit_record_of r x.now }
 {
-    if !from_record::good_tags(r) {
-        return CommitAnswer::Refusal(100);
+    if from_record::good_tags(r) {
+        let after = model::calls::commit_timestep(from_record::device_from(r), x)?;
+        Ok(CommitChanges {
+            point: after.point,
+            histories: record::histories_record(after.histories),
+        })
+    } else {
+        Err(Refusal::Tag)
     }
-    let d = from_record::device_from(r);
-    let a = model::calls::commit_timestep(d, x);
-    commit_changes(a)
 }

@@ -1,9 +1,9 @@
 -- By the tags' words: whether every tag is known of the record that the words are.
 -- Assumes nothing.
 use Prim.Native.Nat.{ℕ}
-use mathlib.Core.Path.{◌≡◌}
+use mathlib.Core.Path.{◌≡◌, refl, ◌∙◌}
 use mathlib.Core.List.{List}
-use mathlib.Core.Bool.{false, cond}
+use mathlib.Core.Bool.{Bool, true, false, ◌&&◌}
 use lib.Dec.{leb}
 use lib.Bits.{bit_or}
 use lib.ListN.{get_or}
@@ -26,9 +26,15 @@ histories_known w a b c d e ea eb ec ed ee = rw (or_known _ _, or_known _ _, or_
 abbrev pub or_of : ℕ → ℕ → ℕ → ℕ → ℕ
 or_of a b t h = bit_or (bit_or (bit_or a b) t) h
 
+regroup : (p q r s : Bool) → (p && q && (r && s)) ≡ (p && q && r && s)
+regroup true true true s = refl
+regroup true true false s = refl
+regroup true false r s = refl
+regroup false q r s = refl
+
 pub known_tags : (w : List Float) (a b t h m s : ℕ) → a ≡ whole_of (get_or w 5 nan) → b ≡ whole_of (get_or w 7 nan) →
     leb t 1 ≡ good_terminals (terminals_of w) → leb h 1 ≡ good_histories (histories_of w) →
     m ≡ whole_of (get_or w 109 nan) → s ≡ whole_of (get_or w 112 nan) →
-    good_tags (record_of w) ≡ cond (leb (or_of a b t h) 1) (cond (leb m 3) (good_stage s) false) false
-unfolding record_of card_of given_at method_of
-known_tags w a b t h m s ea eb et eh em es = rw (ea, eb, em, es) (tags_at_once (record_of w) t h et eh)
+    good_tags (record_of w) ≡ (leb (or_of a b t h) 1 && leb m 3 && leb 1 s && leb s 5)
+unfolding record_of card_of given_at method_of good_stage
+known_tags w a b t h m s ea eb et eh em es = rw (ea, eb, em, es) (tags_at_once (record_of w) t h et eh ∙ regroup (leb (or_of (whole_of (get_or w 5 nan)) (whole_of (get_or w 7 nan)) t h) 1) (leb (whole_of (get_or w 109 nan)) 3) (leb 1 (whole_of (get_or w 112 nan))) (leb (whole_of (get_or w 112 nan)) 5))

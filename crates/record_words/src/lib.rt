@@ -16,23 +16,13 @@ use record::{
 
 // ---- one word
 
-// Reading a word here keeps the callers' proofs short.
-fn word(w: &[f64; 113], k: usize) -> f64
-    requires { k < 113 }
-    ensures { result ≡ get_or w.now k nan }
-{
-    w[k]
-}
-
 // The bits of a word, and all ones where they are a NaN's, which is no tag and no row. A NaN's own bits cannot be read: `to_bits` asks
 // for a number.
+#[tactic(auto, unfolding(crate::specs::Words::whole_of))]
 fn whole(x: f64) -> u64
     ensures { result ≡ whole_of x }
 {
-    if x != x {
-        return 0xffff_ffff_ffff_ffff;
-    }
-    f64::to_bits(x)
+    if x.is_nan() { u64::MAX } else { x.to_bits() }
 }
 
 fn whole_at(w: &[f64; 113], k: usize) -> u64
@@ -46,22 +36,23 @@ fn index_at(w: &[f64; 113], k: usize) -> usize
     requires { k < 113 }
     ensures { result ≡ whole_of (get_or w.now k nan) }
 {
-    let n = whole(w[k]);
-    n as usize
+    whole(w[k]) as usize
 }
 
 // ---- from the words to the record; a part that stands in the record more than once is read from word k on
 
+#[tactic(auto, unfolding(crate::specs::Words::given_at))]
 fn given_at(w: &[f64; 113], k: usize) -> GivenRecord
     requires { k + 1 < 113 }
     ensures { result ≡ given_at w.now k }
 {
     GivenRecord {
         tag: whole_at(w, k),
-        value: word(w, k + 1),
+        value: w[k + 1],
     }
 }
 
+#[tactic(auto, unfolding(crate::specs::Words::node_at))]
 fn node_at(w: &[f64; 113], k: usize) -> NodeRecord
     requires { k + 1 < 113 }
     ensures { result ≡ node_at w.now k }
@@ -72,90 +63,99 @@ fn node_at(w: &[f64; 113], k: usize) -> NodeRecord
     }
 }
 
+#[tactic(auto, unfolding(crate::specs::Words::history_at))]
 fn history_at(w: &[f64; 113], k: usize) -> HistoryRecord
     requires { k + 3 < 113 }
     ensures { result ≡ history_at w.now k }
 {
     HistoryRecord {
-        q_prev: word(w, k),
+        q_prev: w[k],
         q_prev2: given_at(w, k + 1),
-        i_prev: word(w, k + 3),
+        i_prev: w[k + 3],
     }
 }
 
+#[tactic(auto, unfolding(crate::specs::Words::card_of))]
+#[inline(always)]
 fn card_of(w: &[f64; 113]) -> CardRecord
     ensures { result ≡ card_of w.now }
 {
     CardRecord {
-        vto: word(w, 0),
-        kp: word(w, 1),
-        lambda: word(w, 2),
-        gamma: word(w, 3),
-        phi: word(w, 4),
+        vto: w[0],
+        kp: w[1],
+        lambda: w[2],
+        gamma: w[3],
+        phi: w[4],
         rd_card: given_at(w, 5),
         rs_card: given_at(w, 7),
-        rsh: word(w, 9),
-        is_bulk: word(w, 10),
-        js: word(w, 11),
-        kf: word(w, 12),
-        af: word(w, 13),
-        tnom: word(w, 14),
-        polarity: word(w, 15),
-        cgso: word(w, 16),
-        cgdo: word(w, 17),
-        cgbo: word(w, 18),
-        cox: word(w, 19),
-        cj: word(w, 20),
-        cjsw: word(w, 21),
-        pb: word(w, 22),
-        mj: word(w, 23),
-        mjsw: word(w, 24),
-        fc: word(w, 25),
+        rsh: w[9],
+        is_bulk: w[10],
+        js: w[11],
+        kf: w[12],
+        af: w[13],
+        tnom: w[14],
+        polarity: w[15],
+        cgso: w[16],
+        cgdo: w[17],
+        cgbo: w[18],
+        cox: w[19],
+        cj: w[20],
+        cjsw: w[21],
+        pb: w[22],
+        mj: w[23],
+        mjsw: w[24],
+        fc: w[25],
     }
 }
 
+#[tactic(auto, unfolding(crate::specs::Words::geometry_of))]
+#[inline(always)]
 fn geometry_of(w: &[f64; 113]) -> Geometry
     ensures { result ≡ geometry_of w.now }
 {
     Geometry {
-        rd: word(w, 26),
-        rs: word(w, 27),
-        nrd: word(w, 28),
-        nrs: word(w, 29),
-        isat_bs: word(w, 30),
-        isat_bd: word(w, 31),
-        w: word(w, 32),
-        l: word(w, 33),
-        w_over_l: word(w, 34),
-        as_: word(w, 35),
-        ad: word(w, 36),
-        ps: word(w, 37),
-        pd: word(w, 38),
-        cgs_ov: word(w, 39),
-        cgd_ov: word(w, 40),
-        cgb_ov: word(w, 41),
-        cox_wl: word(w, 42),
-        cbs_bot: word(w, 43),
-        cbs_sw: word(w, 44),
-        cbd_bot: word(w, 45),
-        cbd_sw: word(w, 46),
+        rd: w[26],
+        rs: w[27],
+        nrd: w[28],
+        nrs: w[29],
+        isat_bs: w[30],
+        isat_bd: w[31],
+        w: w[32],
+        l: w[33],
+        w_over_l: w[34],
+        as_: w[35],
+        ad: w[36],
+        ps: w[37],
+        pd: w[38],
+        cgs_ov: w[39],
+        cgd_ov: w[40],
+        cgb_ov: w[41],
+        cox_wl: w[42],
+        cbs_bot: w[43],
+        cbs_sw: w[44],
+        cbd_bot: w[45],
+        cbd_sw: w[46],
     }
 }
 
+#[tactic(auto, unfolding(crate::specs::Words::scaled_of))]
+#[inline(always)]
 fn scaled_of(w: &[f64; 113]) -> Scaled
     ensures { result ≡ scaled_of w.now }
 {
     Scaled {
-        isat_t_factor: word(w, 47),
-        pb_t: word(w, 48),
-        cj_t_factor: word(w, 49),
-        cjsw_t_factor: word(w, 50),
-        vto_t: word(w, 51),
-        kp_t: word(w, 52),
-        phi_t: word(w, 53),
+        isat_t_factor: w[47],
+        pb_t: w[48],
+        cj_t_factor: w[49],
+        cjsw_t_factor: w[50],
+        vto_t: w[51],
+        kp_t: w[52],
+        phi_t: w[53],
     }
 }
 
+#[tactic(auto, unfolding(crate::specs::Words::terminals_of))]
+#[inline(always)]
 fn terminals_of(w: &[f64; 113]) -> TerminalsRecord
     ensures { result ≡ terminals_of w.now }
 {
@@ -169,43 +169,49 @@ fn terminals_of(w: &[f64; 113]) -> TerminalsRecord
     }
 }
 
+#[tactic(auto, unfolding(crate::specs::Words::point_of))]
+#[inline(always)]
 fn point_of(w: &[f64; 113]) -> OperatingPoint
     ensures { result ≡ point_of w.now }
 {
     OperatingPoint {
-        ids_eval: word(w, 66),
-        gbs: word(w, 67),
-        gbd: word(w, 68),
-        ibs_eq: word(w, 69),
-        ibd_eq: word(w, 70),
-        gm: word(w, 71),
-        gds: word(w, 72),
-        gmbs: word(w, 73),
-        jeq: word(w, 74),
-        vgs_eff_prev: word(w, 75),
-        vds_eff_prev: word(w, 76),
+        ids_eval: w[66],
+        gbs: w[67],
+        gbd: w[68],
+        ibs_eq: w[69],
+        ibd_eq: w[70],
+        gm: w[71],
+        gds: w[72],
+        gmbs: w[73],
+        jeq: w[74],
+        vgs_eff_prev: w[75],
+        vds_eff_prev: w[76],
     }
 }
 
+#[tactic(auto, unfolding(crate::specs::Words::charges_of))]
+#[inline(always)]
 fn charges_of(w: &[f64; 113]) -> Charges
     ensures { result ≡ charges_of w.now }
 {
     Charges {
-        cgs_eval: word(w, 77),
-        cgd_eval: word(w, 78),
-        cgb_eval: word(w, 79),
-        q_gs_eval: word(w, 80),
-        q_gd_eval: word(w, 81),
-        q_gb_eval: word(w, 82),
-        vbs_eval: word(w, 83),
-        vbd_eval: word(w, 84),
-        cbs_eval: word(w, 85),
-        cbd_eval: word(w, 86),
-        q_bs_eval: word(w, 87),
-        q_bd_eval: word(w, 88),
+        cgs_eval: w[77],
+        cgd_eval: w[78],
+        cgb_eval: w[79],
+        q_gs_eval: w[80],
+        q_gd_eval: w[81],
+        q_gb_eval: w[82],
+        vbs_eval: w[83],
+        vbd_eval: w[84],
+        cbs_eval: w[85],
+        cbd_eval: w[86],
+        q_bs_eval: w[87],
+        q_bd_eval: w[88],
     }
 }
 
+#[tactic(auto, unfolding(crate::specs::Words::histories_of))]
+#[inline(always)]
 fn histories_of(w: &[f64; 113]) -> HistoriesRecord
     ensures { result ≡ histories_of w.now }
 {
@@ -218,68 +224,23 @@ fn histories_of(w: &[f64; 113]) -> HistoriesRecord
     }
 }
 
+#[tactic(auto, unfolding(crate::specs::Words::method_of))]
+#[inline(always)]
 fn method_of(w: &[f64; 113]) -> MethodRecord
     ensures { result ≡ method_of w.now }
 {
     MethodRecord {
         tag: whole_at(w, 109),
-        h: word(w, 110),
-        h_prev: word(w, 111),
+        h: w[110],
+        h_prev: w[111],
     }
 }
 
-// The record that the words are.
+// The record that the words are. Copied into its callers, so that of the record only what a caller needs is read: as a call it goes through
+// memory, at 20 nanoseconds or more a device. No `From`, since neither `DeviceRecord` nor an array is this crate's.
+#[tactic(auto, unfolding(crate::specs::Words::record_of))]
+#[inline(always)]
 pub fn record_of(w: &[f64; 113]) -> DeviceRecord
-    ensures { result ≡ record_of w.now }
-{
-    DeviceRecord {
-        card: card_of(w),
-        geometry: geometry_of(w),
-        scaled: scaled_of(w),
-        terminals: terminals_of(w),
-        point: point_of(w),
-        charges: charges_of(w),
-        histories: histories_of(w),
-        method: method_of(w),
-        stage: whole_at(w, 112),
-    }
-}
-
-// The same once more for each step of a bridge's load by cells: a large function with one caller is copied into it, and of the record
-// only what that step needs is then read. With two callers the record goes through memory, at 20 nanoseconds or more a device.
-pub fn record_for_rows(w: &[f64; 113]) -> DeviceRecord
-    ensures { result ≡ record_of w.now }
-{
-    DeviceRecord {
-        card: card_of(w),
-        geometry: geometry_of(w),
-        scaled: scaled_of(w),
-        terminals: terminals_of(w),
-        point: point_of(w),
-        charges: charges_of(w),
-        histories: histories_of(w),
-        method: method_of(w),
-        stage: whole_at(w, 112),
-    }
-}
-
-pub fn record_for_static(w: &[f64; 113]) -> DeviceRecord
-    ensures { result ≡ record_of w.now }
-{
-    DeviceRecord {
-        card: card_of(w),
-        geometry: geometry_of(w),
-        scaled: scaled_of(w),
-        terminals: terminals_of(w),
-        point: point_of(w),
-        charges: charges_of(w),
-        histories: histories_of(w),
-        method: method_of(w),
-        stage: whole_at(w, 112),
-    }
-}
-
-pub fn record_for_charges(w: &[f64; 113]) -> DeviceRecord
     ensures { result ≡ record_of w.now }
 {
     DeviceRecord {
@@ -322,18 +283,9 @@ pub fn good_words(w: &[f64; 113]) -> bool
     let terminals = terminal_tags(w);
     let histories = history_tags(w);
     let all = whole_at(w, 5) | whole_at(w, 7) | terminals | histories;
-    if 1 < all {
-        return false;
-    }
     let method = whole_at(w, 109);
-    if 3 < method {
-        return false;
-    }
     let stage = whole_at(w, 112);
-    if stage < 1 {
-        return false;
-    }
-    stage <= 5
+    all <= 1 && method <= 3 && 1 <= stage && stage <= 5
 }
 
 // ---- from the record to the words

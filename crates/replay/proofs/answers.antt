@@ -1,2 +1,2 @@
-pub mod Lists
 pub mod Decimal
+pub mod Lists

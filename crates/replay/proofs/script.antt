@@ -1,5 +1,2 @@
-pub mod Leading
-pub mod Counting
-pub mod Comparing
 pub mod Decimal
-pub mod Colon
+pub mod Words

@@ -1,5 +1,2 @@
 pub mod Filling
-pub mod Cutting
-pub mod Reading
-pub mod Digits
-pub mod Counts
+pub mod Twos

@@ -1,77 +1,60 @@
--- What a single word writes.
-use Rattle.std.specs.Prelude.{ℕ, ◌+◌, ◌-◌, ◌*◌, Bool, cond, List, [], ◌∷◌, eqb, ltb, length, take, drop}
+-- What a single word writes, or nothing.
+use Rattle.std.specs.Prelude.{ℕ, ◌+◌, ◌-◌, ◌*◌, cond, List, [], ◌∷◌, eqb, ltb, length, take, drop, Float, Option, Some, None, position, ◌==◌}
 use Rattle.std.specs.Float.{nan, binary64}
 use Rattle.std.specs.Float.Ieee.{of_bits}
+use Rattle.std.specs.Option.{option_map, option_and_then}
+use Rattle.std.specs.Str.{bytes_eq}
 use Rattle.device.specs.declared.Discretisation.{Discretisation}
+use Rattle.device.specs.declared.Discretisation.TheVariants as Discretisation
+use Rattle.device.specs.declared.NodeId.{NodeId}
 use Rattle.device.specs.declared.NodeId.TheVariants as NodeId
 use Rattle.hex_text.specs.Hex.{bits_at}
-use Rattle.hex_text.specs.declared.read.Bits.{Bits}
-use Rattle.replay.specs.declared.script.number.Number.{Number}
-use Rattle.replay.specs.declared.script.number.Whole.{Whole}
-use Rattle.replay.specs.declared.script.number.Node.{Node}
-use Rattle.replay.specs.declared.script.number.Method.{Method}
-use Rattle.replay.specs.Word.{same_bytes, until_of}
-
-unfoldable pub float_of : Bits → Number
-float_of (Bits.Is b) = Number.Is (of_bits binary64 b)
-float_of Bits.Not = Number.Not
 
 -- `nan`, or sixteen hexadecimal digits
-unfoldable pub number_of : List ℕ → Number
-number_of w = cond (same_bytes w (110 ∷ 97 ∷ 110 ∷ [])) (Number.Is nan) (cond (eqb (length w) 16) (float_of (bits_at w 0)) Number.Not)
+unfoldable pub number_of : List ℕ → Option Float
+number_of w = cond (bytes_eq w (110 ∷ 97 ∷ 110 ∷ [])) (Some nan) (cond (eqb (length w) 16) (option_map (of_bits binary64) (bits_at w 0)) None)
 
--- more decimal digits after those that make n; a number of 64 bits at most
-unfoldable pub whole_after : ℕ → List ℕ → Whole
-whole_after n [] = Whole.Is n
-whole_after n (b ∷ s) =
-    cond (ltb b 48) Whole.Not (cond (ltb 57 b) Whole.Not (cond (ltb (n * 10 + (b - 48)) 18446744073709551616) (whole_after (n * 10 + (b - 48)) s) Whole.Not))
+-- a decimal digit after those that make n; a number of 64 bits at most
+unfoldable pub with_digit : ℕ → ℕ → Option ℕ
+with_digit n b =
+    cond (ltb b 48) None (cond (ltb 57 b) None (cond (ltb (n * 10 + (b - 48)) 18446744073709551616) (Some (n * 10 + (b - 48))) None))
 
-unfoldable pub whole_of : List ℕ → Whole
-whole_of w = cond (eqb (length w) 0) Whole.Not (whole_after 0 w)
+unfoldable pub whole_after : ℕ → List ℕ → Option ℕ
+whole_after n [] = Some n
+whole_after n (b ∷ s) = option_and_then (λ (m : ℕ). whole_after m s) (with_digit n b)
 
-unfoldable pub node_at : Whole → Node
-node_at (Whole.Is n) = Node.Is (NodeId.At n)
-node_at Whole.Not = Node.Not
+unfoldable pub whole_of : List ℕ → Option ℕ
+whole_of w = cond (eqb (length w) 0) None (whole_after 0 w)
 
 -- `-` is ground
-unfoldable pub node_of : List ℕ → Node
-node_of w = cond (same_bytes w (45 ∷ [])) (Node.Is NodeId.Ground) (node_at (whole_of w))
+unfoldable pub node_of : List ℕ → Option NodeId
+node_of w = cond (bytes_eq w (45 ∷ [])) (Some NodeId.Ground) (option_map NodeId.At (whole_of w))
 
--- the two parts of a word on either side of its first colon
-abbrev pub before_colon : List ℕ → List ℕ
-before_colon w = take (until_of w 0 58) w
+-- the place of a word's first colon
+abbrev pub colon_in : List ℕ → Option ℕ
+colon_in w = position (λ b. b == 58) w
 
-abbrev pub after_colon : List ℕ → List ℕ
-after_colon w = drop (until_of w 0 58 + 1) w
-
-abbrev pub has_colon : List ℕ → Bool
-has_colon w = ltb (until_of w 0 58) (length w)
+-- what is made of the two parts of a word on either side of its first colon
+unfoldable pub on_both : {A : Type 0} → (List ℕ → List ℕ → Option A) → List ℕ → Option A
+on_both read w = option_and_then (λ (k : ℕ). read (take k w) (drop (k + 1) w)) (colon_in w)
 
 -- `euler` and `trap` have one step length
-unfoldable pub one_step : List ℕ → Number → Method
-one_step name (Number.Is h) =
+unfoldable pub one_step : List ℕ → Float → Option Discretisation
+one_step name h =
     cond
-    (same_bytes name (101 ∷ 117 ∷ 108 ∷ 101 ∷ 114 ∷ []))
-    (Method.Is (Discretisation.Euler h))
-    (cond (same_bytes name (116 ∷ 114 ∷ 97 ∷ 112 ∷ [])) (Method.Is (Discretisation.Trapezoid h)) Method.Not)
-one_step name Number.Not = Method.Not
+    (bytes_eq name (101 ∷ 117 ∷ 108 ∷ 101 ∷ 114 ∷ []))
+    (Some (Discretisation.Euler h))
+    (cond (bytes_eq name (116 ∷ 114 ∷ 97 ∷ 112 ∷ [])) (Some (Discretisation.Trapezoid h)) None)
 
 -- `gear` has two, a colon between
-unfoldable pub two_steps : Number → Number → Method
-two_steps (Number.Is h) (Number.Is before) = Method.Is (Discretisation.Gear h before)
-two_steps (Number.Is h) Number.Not = Method.Not
-two_steps Number.Not before = Method.Not
+unfoldable pub two_steps : List ℕ → List ℕ → Option Discretisation
+two_steps first second =
+    option_and_then (λ (h : Float). option_map (λ (before : Float). Discretisation.Gear h before) (number_of second)) (number_of first)
 
-unfoldable pub gear_of : List ℕ → Method
-gear_of steps = cond (has_colon steps) (two_steps (number_of (before_colon steps)) (number_of (after_colon steps))) Method.Not
-
-unfoldable pub steps_of : List ℕ → List ℕ → Method
-steps_of name steps = cond (same_bytes name (103 ∷ 101 ∷ 97 ∷ 114 ∷ [])) (gear_of steps) (one_step name (number_of steps))
+unfoldable pub steps_of : List ℕ → List ℕ → Option Discretisation
+steps_of name steps =
+    cond (bytes_eq name (103 ∷ 101 ∷ 97 ∷ 114 ∷ [])) (on_both two_steps steps) (option_and_then (one_step name) (number_of steps))
 
 -- `none`, `euler:H`, `trap:H` or `gear:H:HPREV`
-unfoldable pub method_of : List ℕ → Method
-method_of w =
-    cond
-    (same_bytes w (110 ∷ 111 ∷ 110 ∷ 101 ∷ []))
-    (Method.Is Discretisation.None)
-    (cond (has_colon w) (steps_of (before_colon w) (after_colon w)) Method.Not)
+unfoldable pub method_of : List ℕ → Option Discretisation
+method_of w = cond (bytes_eq w (110 ∷ 111 ∷ 110 ∷ 101 ∷ [])) (Some Discretisation.None) (on_both steps_of w)

@@ -1,10 +1,10 @@
 // Answers as text: numbers, nodes, methods and lists, in the form in which a script writes them. Each function writes into a lent
 // buffer from at on and answers the place after; what has no room is left out.
-ghost use Rattle.std.specs.Prelude.{◌≡◌, ◌+◌, ◌<◌, length, take};
-ghost use Rattle.hex_text.specs.Text.{end_of, text_at};
-ghost use Rattle.replay.specs.Text.{whole_text, next_whole_text, next_text, item_text, each_text, node_text, given_text, history_text, method_text, between_text, list_text, places_text, item_whole_text, wholes_text};
+ghost use Rattle.std.specs.Prelude.{◌≡◌, ◌+◌, ◌<◌, ℕ, List, [], ◌∷◌, ◌++◌, length};
+ghost use Rattle.hex_text.specs.Text.{end_of, text_at, number_text};
+ghost use Rattle.replay.specs.Text.{whole_text, node_text, given_text, history_text, method_text, between_text, each_by, list_by};
 
-use device::{ChargeHistory, Discretisation, Given, NodeId};
+use device::{ChargeHistory, Discretisation, NodeId};
 
 // The byte of a decimal digit.
 fn digit_byte(d: u64) -> u8
@@ -14,7 +14,8 @@ fn digit_byte(d: u64) -> u8
     (48 + d) as u8
 }
 
-// A whole number in decimal.
+// A whole number in decimal. The digits are found from the last one up, so the loop counts down by hand: how many there are is known
+// behind it.
 pub fn put_whole(out: &mut [u8], at: usize, x: u64) -> usize
     ensures value { result ≡ end_of (length out.old) at (whole_text x) }
     ensures out_after { out.new ≡ text_at out.old at (whole_text x) }
@@ -34,36 +35,80 @@ pub fn put_whole(out: &mut [u8], at: usize, x: u64) -> usize
     hex_text::put_text(out, at, &digits[first..])
 }
 
-// A number after a space.
-pub fn put_next_whole(out: &mut [u8], at: usize, x: u64) -> usize
-    ensures value { result ≡ end_of (length out.old) at (next_whole_text x) }
-    ensures out_after { out.new ≡ text_at out.old at (next_whole_text x) }
-{
-    let n = hex_text::put_text(out, at, b" ");
-    put_whole(out, n, x)
+// What is printed by one text. Places in the buffer are handed on, not slices: the contracts say where a text ends in the whole buffer.
+pub trait Text: Copy {
+    ghost text: { Self → List ℕ };
+
+    fn put(self, out: &mut [u8], at: usize) -> usize
+        ensures value { result ≡ end_of (length out.old) at (text self) }
+        ensures out_after { out.new ≡ text_at out.old at (text self) };
 }
 
-// A float after a space.
-pub fn put_next(out: &mut [u8], at: usize, x: f64) -> usize
-    ensures value { result ≡ end_of (length out.old) at (next_text x) }
-    ensures out_after { out.new ≡ text_at out.old at (next_text x) }
-{
-    let n = hex_text::put_text(out, at, b" ");
-    hex_text::put_number(out, n, x)
+impl Text for f64 {
+    ghost text = { number_text };
+
+    fn put(self, out: &mut [u8], at: usize) -> usize {
+        hex_text::put_number(out, at, self)
+    }
 }
 
-// Floats, each after a space.
-pub fn put_each(out: &mut [u8], at: usize, xs: &[f64]) -> usize
-    ensures value { result ≡ end_of (length out.old) at (each_text xs.now) }
-    ensures out_after { out.new ≡ text_at out.old at (each_text xs.now) }
+impl Text for u64 {
+    ghost text = { whole_text };
+
+    fn put(self, out: &mut [u8], at: usize) -> usize {
+        put_whole(out, at, self)
+    }
+}
+
+impl Text for usize {
+    ghost text = { whole_text };
+
+    fn put(self, out: &mut [u8], at: usize) -> usize {
+        put_whole(out, at, self as u64)
+    }
+}
+
+impl Text for u32 {
+    ghost text = { whole_text };
+
+    fn put(self, out: &mut [u8], at: usize) -> usize {
+        put_whole(out, at, u64::from(self))
+    }
+}
+
+// A value behind a text.
+pub fn put_behind<T: Text>(out: &mut [u8], at: usize, before: &[u8], x: T) -> usize
+    ensures value { result ≡ end_of (length out.old) at (before.now ++ T.text x) }
+    ensures out_after { out.new ≡ text_at out.old at (before.now ++ T.text x) }
+{
+    let n = hex_text::put_text(out, at, before);
+    x.put(out, n)
+}
+
+// Values, each behind the text.
+pub fn put_each<T: Text>(out: &mut [u8], at: usize, before: &[u8], xs: &[T]) -> usize
+    ensures value { result ≡ end_of (length out.old) at (each_by (λ x. before.now ++ T.text x) xs.now) }
+    ensures out_after { out.new ≡ text_at out.old at (each_by (λ x. before.now ++ T.text x) xs.now) }
 {
     let mut n = at;
-    let mut i = 0;
-    while i < xs.len() {
-        n = put_next(out, n, xs[i]);
-        i += 1;
+    for x in xs {
+        n = put_behind(out, n, before, *x);
     }
     n
+}
+
+// A list after a space.
+pub fn put_list<T: Text>(out: &mut [u8], at: usize, xs: &[T]) -> usize
+    ensures value { result ≡ end_of (length out.old) at (list_by T.text xs.now) }
+    ensures out_after { out.new ≡ text_at out.old at (list_by T.text xs.now) }
+{
+    match xs.split_first() {
+        None => hex_text::put_text(out, at, b" -"),
+        Some((first, further)) => {
+            let n = put_behind(out, at, b" ", *first);
+            put_each(out, n, b",", further)
+        }
+    }
 }
 
 // A node's number; ground is `-`.
@@ -77,13 +122,13 @@ pub fn put_node(out: &mut [u8], at: usize, node: NodeId) -> usize
     }
 }
 
-pub fn put_given(out: &mut [u8], at: usize, given: Given) -> usize
+pub fn put_given(out: &mut [u8], at: usize, given: Option<f64>) -> usize
     ensures value { result ≡ end_of (length out.old) at (given_text given) }
     ensures out_after { out.new ≡ text_at out.old at (given_text given) }
 {
     match given {
-        Given::Absent => hex_text::put_text(out, at, b"none"),
-        Given::Value(x) => hex_text::put_number(out, at, x),
+        None => hex_text::put_text(out, at, b"none"),
+        Some(x) => hex_text::put_number(out, at, x),
     }
 }
 
@@ -134,99 +179,4 @@ pub fn put_between(out: &mut [u8], at: usize, pos: NodeId, neg: NodeId, x: f64) 
     let d = put_node(out, c, neg);
     let e = hex_text::put_text(out, d, b":");
     hex_text::put_number(out, e, x)
-}
-
-// A float after a comma.
-fn put_item(out: &mut [u8], at: usize, x: f64) -> usize
-    ensures value { result ≡ end_of (length out.old) at (item_text x) }
-    ensures out_after { out.new ≡ text_at out.old at (item_text x) }
-{
-    let n = hex_text::put_text(out, at, b",");
-    hex_text::put_number(out, n, x)
-}
-
-// A list of floats after a space.
-pub fn put_list(out: &mut [u8], at: usize, xs: &[f64]) -> usize
-    ensures value { result ≡ end_of (length out.old) at (list_text xs.now) }
-    ensures out_after { out.new ≡ text_at out.old at (list_text xs.now) }
-{
-    if xs.len() == 0 {
-        return hex_text::put_text(out, at, b" -");
-    }
-    let mut n = put_next(out, at, xs[0]);
-    let mut i = 1;
-    while i < xs.len() {
-        n = put_item(out, n, xs[i]);
-        i += 1;
-    }
-    n
-}
-
-// The first `count` places, each after a space.
-pub fn put_places(out: &mut [u8], at: usize, places: &[usize], count: usize) -> usize
-    ensures value { result ≡ end_of (length out.old) at (places_text (take count places.now)) }
-    ensures out_after { out.new ≡ text_at out.old at (places_text (take count places.now)) }
-{
-    let mut n = at;
-    let mut i = 0;
-    while i < places.len() {
-        if i >= count {
-            return n;
-        }
-        n = put_next_whole(out, n, places[i] as u64);
-        i += 1;
-    }
-    n
-}
-
-// A whole number after a comma.
-fn put_item_whole(out: &mut [u8], at: usize, x: u64) -> usize
-    ensures value { result ≡ end_of (length out.old) at (item_whole_text x) }
-    ensures out_after { out.new ≡ text_at out.old at (item_whole_text x) }
-{
-    let n = hex_text::put_text(out, at, b",");
-    put_whole(out, n, x)
-}
-
-// A list of whole numbers after a space.
-pub fn put_wholes(out: &mut [u8], at: usize, xs: &[usize]) -> usize
-    ensures value { result ≡ end_of (length out.old) at (wholes_text xs.now) }
-    ensures out_after { out.new ≡ text_at out.old at (wholes_text xs.now) }
-{
-    if xs.len() == 0 {
-        return hex_text::put_text(out, at, b" -");
-    }
-    let mut n = put_next_whole(out, at, xs[0] as u64);
-    let mut i = 1;
-    while i < xs.len() {
-        n = put_item_whole(out, n, xs[i] as u64);
-        i += 1;
-    }
-    n
-}
-
-// A column as a number of 64 bits. Of a parameter it is known that it fits, of an element of a lent slice it is not.
-fn wide(column: u32) -> u64
-    ensures { result ≡ column }
-{
-    column as u64
-}
-
-// A list of columns after a space.
-pub fn put_columns(out: &mut [u8], at: usize, xs: &[u32]) -> usize
-    ensures value { result ≡ end_of (length out.old) at (wholes_text xs.now) }
-    ensures out_after { out.new ≡ text_at out.old at (wholes_text xs.now) }
-{
-    if xs.len() == 0 {
-        return hex_text::put_text(out, at, b" -");
-    }
-    let first = wide(xs[0]);
-    let mut n = put_next_whole(out, at, first);
-    let mut i = 1;
-    while i < xs.len() {
-        let x = wide(xs[i]);
-        n = put_item_whole(out, n, x);
-        i += 1;
-    }
-    n
 }

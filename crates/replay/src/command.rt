@@ -1,67 +1,91 @@
 // Which command a line is, by its first word and the count of its words.
-use crate::script::word::{same, skip_spaces, word, word_count};
+use crate::script::word::{word, word_count};
 
-// Blank lines and those that start with `#` have no answer.
-fn is_silent(line: &[u8]) -> bool {
-    if line.len() == 0 {
-        return true;
-    }
-    if skip_spaces(line, 0) == line.len() {
-        return true;
-    }
-    line[0] == b'#'
+#[derive(Clone, Copy)]
+pub enum Command {
+    Card,
+    CardRaw,
+    Geometry,
+    GeometryRaw,
+    Call,
+    Scale,
+    Bind,
+    Eval,
+    Commit,
+    Load,
+    Resolve,
+    LoadResolved,
+    Reset,
+    Noise,
+    Reactances,
+    State,
+    Extra,
+    Cells,
+    Place,
+    LoadBlock,
+    LoadBridge,
 }
 
-// Which word of `names` w is, counted from 0; the count of the names where it is none of them. One search and a match on its answer
-// are a fraction of the steps of a test for each name.
-pub fn place_of(names: &[u8], w: &[u8]) -> usize {
-    let n = word_count(names);
-    let mut k = 0;
-    while k < n {
-        if same(word(names, k), w) {
-            return k;
-        }
-        k += 1;
-    }
-    n
-}
-
-// The number of a command; 21 is none.
-fn number_of(w: &[u8]) -> usize {
-    place_of(
-        b"card cardraw geometry geometryraw call scale bind eval commit load resolve loadresolved reset noise reactances state extra cells place loadblock loadbridge",
-        w,
-    )
-}
-
-// How many words a line of a command has; those of the first five are not counted here.
-fn words_of(number: usize, words: usize) -> usize {
-    match number {
-        5 | 8 | 18 => 2,
-        6 | 9 => 6,
-        7 => 7,
-        10 | 13 => 3,
-        11 | 17 => 4,
-        12 | 14 | 15 | 16 => 1,
-        19 => 9,
-        20 => 8,
-        _ => words,
+// A command by its name.
+fn named(w: &[u8]) -> Option<Command> {
+    match w {
+        b"card" => Some(Command::Card),
+        b"cardraw" => Some(Command::CardRaw),
+        b"geometry" => Some(Command::Geometry),
+        b"geometryraw" => Some(Command::GeometryRaw),
+        b"call" => Some(Command::Call),
+        b"scale" => Some(Command::Scale),
+        b"bind" => Some(Command::Bind),
+        b"eval" => Some(Command::Eval),
+        b"commit" => Some(Command::Commit),
+        b"load" => Some(Command::Load),
+        b"resolve" => Some(Command::Resolve),
+        b"loadresolved" => Some(Command::LoadResolved),
+        b"reset" => Some(Command::Reset),
+        b"noise" => Some(Command::Noise),
+        b"reactances" => Some(Command::Reactances),
+        b"state" => Some(Command::State),
+        b"extra" => Some(Command::Extra),
+        b"cells" => Some(Command::Cells),
+        b"place" => Some(Command::Place),
+        b"loadblock" => Some(Command::LoadBlock),
+        b"loadbridge" => Some(Command::LoadBridge),
+        _ => None,
     }
 }
 
-// The number of a line's command: 99 for a line that has no answer, 100 for one that is not understood. A line of more than 65,536
-// bytes is no command, whatever its bytes are.
-pub fn command_of(line: &[u8]) -> usize {
-    let words = word_count(line);
-    let number = number_of(word(line, 0));
+// How many words a line of a command has, where the command says it.
+fn words_of(command: Command) -> Option<usize> {
+    match command {
+        Command::Card
+        | Command::CardRaw
+        | Command::Geometry
+        | Command::GeometryRaw
+        | Command::Call => None,
+        Command::Reset | Command::Reactances | Command::State | Command::Extra => Some(1),
+        Command::Scale | Command::Commit | Command::Place => Some(2),
+        Command::Resolve | Command::Noise => Some(3),
+        Command::LoadResolved | Command::Cells => Some(4),
+        Command::Bind | Command::Load => Some(6),
+        Command::Eval => Some(7),
+        Command::LoadBridge => Some(8),
+        Command::LoadBlock => Some(9),
+    }
+}
+
+// Blank lines and those that start with `#` have no answer. A line of more than 65,536 bytes is never silent.
+pub fn is_silent(line: &[u8]) -> bool {
+    line.len() <= 65536 && (word_count(line) == 0 || line[0] == b'#')
+}
+
+// A line's command; none for a line that is not understood. A line of more than 65,536 bytes is no command, whatever its bytes are.
+pub fn command_of(line: &[u8]) -> Option<Command> {
     if line.len() > 65536 {
-        return 100;
+        return None;
     }
-    if is_silent(line) {
-        return 99;
+    let command = named(word(line, 0))?;
+    match words_of(command) {
+        Some(n) if n != word_count(line) => None,
+        _ => Some(command),
     }
-    if words_of(number, words) != words {
-        return 100;
-    }
-    number
 }

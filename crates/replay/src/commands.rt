@@ -1,49 +1,62 @@
-// The commands of a script: what a line answers, and the session that it leaves. `command_of` numbers them.
-use crate::command::command_of;
-use crate::replies::{Session, ended, put_bad, put_name};
+// The commands of a script: what a line answers, and the session that it leaves.
+use crate::command::{Command, command_of, is_silent};
+use crate::replies::{Fault, Session, first_session, put_fault, put_name};
 use crate::{
     bank_calls, device_calls, device_text, function_calls, key_calls, layout_calls, load_calls,
 };
 
-// Calls that read the device and leave it, and lines that do not touch it. A line without an answer ends where it begins.
-fn asked(
-    session: Session,
-    bank: &[[f64; 113]],
-    number: usize,
+fn call(
+    session: &mut Session,
+    bank: &mut [[f64; 113]; 65],
+    command: Command,
     line: &[u8],
     out: &mut [u8],
-) -> usize {
-    let words = session.words;
-    match number {
-        4 => function_calls::put_call(out, line),
-        9 => load_calls::load(words, line, out),
-        11 => load_calls::load_resolved(session, line, out),
-        12 => put_name(out, line),
-        13 => device_calls::noise(words, line, out),
-        14 => device_calls::reactances(words, out),
-        15 => device_text::put_state(out, words, session.present),
-        16 => layout_calls::extra(words, out),
-        17 => layout_calls::cells(words, line, out),
-        19 => bank_calls::load(2, bank, line, out),
-        20 => bank_calls::load(1, bank, line, out),
-        99 => 0,
-        _ => put_bad(out),
+) -> Result<usize, Fault> {
+    match command {
+        Command::Card => key_calls::card(session, false, line, out),
+        Command::CardRaw => key_calls::card(session, true, line, out),
+        Command::Geometry => key_calls::geometry(session, false, line, out),
+        Command::GeometryRaw => key_calls::geometry(session, true, line, out),
+        Command::Call => function_calls::put_call(line, out),
+        Command::Scale => device_calls::scale(session, line, out),
+        Command::Bind => device_calls::bind(session, line, out),
+        Command::Eval => device_calls::eval(session, line, out),
+        Command::Commit => device_calls::commit(session, line, out),
+        Command::Load => load_calls::load(session, line, out),
+        Command::Resolve => load_calls::resolve(session, line, out),
+        Command::LoadResolved => load_calls::load_resolved(session, line, out),
+        Command::Noise => device_calls::noise(session, line, out),
+        Command::Reactances => device_calls::reactances(session, out),
+        Command::State => Ok(device_text::put_state(out, session.device)),
+        Command::Extra => layout_calls::extra(session, out),
+        Command::Cells => layout_calls::cells(session, line, out),
+        Command::Place => bank_calls::place(session, bank, line, out),
+        Command::LoadBlock => bank_calls::load_block(bank, line, out),
+        Command::LoadBridge => bank_calls::load_bridge(bank, line, out),
+        Command::Reset => {
+            let first = session.first;
+            *session = first_session(first);
+            *bank = [first; 65];
+            Ok(put_name(out, line))
+        }
     }
 }
 
-// What a line answers: the answer's text stands in out from its start on, up to the end that the session keeps.
+// What a line answers: the answer's text stands in out from its start on, up to the end that is returned.
 pub fn answer(
-    session: Session,
+    session: &mut Session,
     bank: &mut [[f64; 113]; 65],
     line: &[u8],
     out: &mut [u8],
-) -> Session {
-    let number = command_of(line);
-    match number {
-        0..=3 => key_calls::call(session, number, line, out),
-        5..=8 => device_calls::change(session, number, line, out),
-        10 => load_calls::resolve(session, line, out),
-        18 => ended(session, number, bank_calls::place(bank, session, line, out)),
-        _ => ended(session, number, asked(session, bank, number, line, out)),
+) -> usize {
+    if is_silent(line) {
+        return 0;
+    }
+    let Some(command) = command_of(line) else {
+        return put_fault(out, Fault::Bad);
+    };
+    match call(session, bank, command, line, out) {
+        Ok(end) => end,
+        Err(fault) => put_fault(out, fault),
     }
 }

@@ -1,41 +1,122 @@
 // A device's state as text: every field of the Rust's `Mosfet1` but `jac_cells`, in the order of its declaration. The fields are
-// printed from the device's words by two lists, their names and the first word of each: a loop over a list is checked in a fraction of
-// the time of a statement for each field.
+// printed from the device's words by a list: a loop over it is checked in a fraction of the time of a statement for each field.
 use crate::answers::{put_given, put_history, put_method, put_node};
-use crate::prefixes::at_most;
-use crate::readings::whole_of;
-use crate::script::word::{word, word_count};
-use device::{ChargeHistory, Discretisation, Given, NodeId};
+use device::{ChargeHistory, Discretisation, NodeId};
 use record::{MethodRecord, NodeRecord};
 
-// The word that stands `more` places behind word k. No field starts behind word 109 or has more than four words.
+// Each field's name and its first word. No field starts behind word 109.
+const FIELDS: [(&str, usize); 87] = [
+    ("vto", 0),
+    ("kp", 1),
+    ("lambda", 2),
+    ("gamma", 3),
+    ("phi", 4),
+    ("drain_ext", 54),
+    ("source_ext", 56),
+    ("rd", 26),
+    ("rs", 27),
+    ("rd_card", 5),
+    ("rs_card", 7),
+    ("rsh", 9),
+    ("nrd", 28),
+    ("nrs", 29),
+    ("ids_eval", 66),
+    ("is_bulk", 10),
+    ("js", 11),
+    ("isat_bs", 30),
+    ("isat_bd", 31),
+    ("isat_t_factor", 47),
+    ("gbs", 67),
+    ("gbd", 68),
+    ("ibs_eq", 69),
+    ("ibd_eq", 70),
+    ("pb_t", 48),
+    ("cj_t_factor", 49),
+    ("cjsw_t_factor", 50),
+    ("kf", 12),
+    ("af", 13),
+    ("tnom", 14),
+    ("vto_t", 51),
+    ("kp_t", 52),
+    ("phi_t", 53),
+    ("polarity", 15),
+    ("cgso", 16),
+    ("cgdo", 17),
+    ("cgbo", 18),
+    ("cox", 19),
+    ("cj", 20),
+    ("cjsw", 21),
+    ("pb", 22),
+    ("mj", 23),
+    ("mjsw", 24),
+    ("fc", 25),
+    ("w", 32),
+    ("l", 33),
+    ("w_over_l", 34),
+    ("as_", 35),
+    ("ad", 36),
+    ("ps", 37),
+    ("pd", 38),
+    ("cgs_ov", 39),
+    ("cgd_ov", 40),
+    ("cgb_ov", 41),
+    ("cox_wl", 42),
+    ("cbs_bot", 43),
+    ("cbs_sw", 44),
+    ("cbd_bot", 45),
+    ("cbd_sw", 46),
+    ("drain", 58),
+    ("gate", 60),
+    ("source", 62),
+    ("bulk", 64),
+    ("gm", 71),
+    ("gds", 72),
+    ("gmbs", 73),
+    ("jeq", 74),
+    ("vgs_eff_prev", 75),
+    ("vds_eff_prev", 76),
+    ("cgs_eval", 77),
+    ("cgd_eval", 78),
+    ("cgb_eval", 79),
+    ("q_gs_eval", 80),
+    ("q_gd_eval", 81),
+    ("q_gb_eval", 82),
+    ("gs_hist", 89),
+    ("gd_hist", 93),
+    ("gb_hist", 97),
+    ("vbs_eval", 83),
+    ("vbd_eval", 84),
+    ("cbs_eval", 85),
+    ("cbd_eval", 86),
+    ("q_bs_eval", 87),
+    ("q_bd_eval", 88),
+    ("bs_hist", 101),
+    ("bd_hist", 105),
+    ("disc", 109),
+];
+
+// The word that stands `more` places behind word k. No field has more than four words.
 fn word_at(w: &[f64; 113], k: usize, more: usize) -> f64 {
-    let i = at_most(k, 109) + at_most(more, 3);
-    w[i]
+    w[k.min(109) + more.min(3)]
 }
 
 // The bits of a word; all ones, which is no row, for a NaN.
 fn bits(x: f64) -> u64 {
-    if x != x {
-        return 0xffff_ffff_ffff_ffff;
+    if x.is_nan() {
+        return u64::MAX;
     }
-    f64::to_bits(x)
+    x.to_bits()
 }
 
 // A tag of 0 is the float 0, and no other tag is.
-fn given(tag: f64, x: f64) -> Given {
-    if tag == 0.0 {
-        Given::Absent
-    } else {
-        Given::Value(x)
-    }
+fn given(tag: f64, x: f64) -> Option<f64> {
+    if tag == 0.0 { None } else { Some(x) }
 }
 
 fn node_at(w: &[f64; 113], k: usize) -> NodeId {
-    let index = bits(word_at(w, k, 1));
     from_record::node_from(NodeRecord {
         tag: bits(word_at(w, k, 0)),
-        index: index as usize,
+        index: bits(word_at(w, k, 1)) as usize,
     })
 }
 
@@ -67,42 +148,21 @@ fn put_value(out: &mut [u8], at: usize, w: &[f64; 113], k: usize) -> usize {
 }
 
 // A name after a space, `=` and the value.
-fn put_field(out: &mut [u8], at: usize, name: &[u8], w: &[f64; 113], k: usize) -> usize {
+fn put_field(out: &mut [u8], at: usize, name: &str, w: &[f64; 113], k: usize) -> usize {
     let a = hex_text::put_text(out, at, b" ");
-    let b = hex_text::put_text(out, a, name);
+    let b = hex_text::put_text(out, a, name.as_bytes());
     let c = hex_text::put_text(out, b, b"=");
     put_value(out, c, w, k)
 }
 
-// The number that word i of `firsts` writes.
-fn first_of(firsts: &[u8], i: usize) -> usize {
-    let first = whole_of(word(firsts, i));
-    first.n as usize
-}
-
-// The fields that start at the words `firsts`, each under its word of `names`.
-fn put_fields(out: &mut [u8], at: usize, names: &[u8], firsts: &[u8], w: &[f64; 113]) -> usize {
-    let fields = word_count(names);
-    let mut n = at;
-    let mut i = 0;
-    while i < fields {
-        n = put_field(out, n, word(names, i), w, first_of(firsts, i));
-        i += 1;
+// The state's text from the start of out on; without a device there is none.
+pub fn put_state(out: &mut [u8], device: Option<[f64; 113]>) -> usize {
+    let Some(words) = device else {
+        return hex_text::put_text(out, 0, b"state nothing");
+    };
+    let mut n = hex_text::put_text(out, 0, b"state");
+    for (name, k) in FIELDS {
+        n = put_field(out, n, name, &words, k);
     }
     n
-}
-
-// The state's text from the start of out on; a device that is not present has none.
-pub fn put_state(out: &mut [u8], words: [f64; 113], present: bool) -> usize {
-    if !present {
-        return hex_text::put_text(out, 0, b"state nothing");
-    }
-    let n = hex_text::put_text(out, 0, b"state");
-    put_fields(
-        out,
-        n,
-        b"vto kp lambda gamma phi drain_ext source_ext rd rs rd_card rs_card rsh nrd nrs ids_eval is_bulk js isat_bs isat_bd isat_t_factor gbs gbd ibs_eq ibd_eq pb_t cj_t_factor cjsw_t_factor kf af tnom vto_t kp_t phi_t polarity cgso cgdo cgbo cox cj cjsw pb mj mjsw fc w l w_over_l as_ ad ps pd cgs_ov cgd_ov cgb_ov cox_wl cbs_bot cbs_sw cbd_bot cbd_sw drain gate source bulk gm gds gmbs jeq vgs_eff_prev vds_eff_prev cgs_eval cgd_eval cgb_eval q_gs_eval q_gd_eval q_gb_eval gs_hist gd_hist gb_hist vbs_eval vbd_eval cbs_eval cbd_eval q_bs_eval q_bd_eval bs_hist bd_hist disc",
-        b"0 1 2 3 4 54 56 26 27 5 7 9 28 29 66 10 11 30 31 47 67 68 69 70 48 49 50 12 13 14 51 52 53 15 16 17 18 19 20 21 22 23 24 25 32 33 34 35 36 37 38 39 40 41 42 43 44 45 46 58 60 62 64 71 72 73 74 75 76 77 78 79 80 81 82 89 93 97 83 84 85 86 87 88 101 105 109",
-        &words,
-    )
 }

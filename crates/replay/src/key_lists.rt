@@ -1,87 +1,80 @@
-// The keys of a line's words, each `KEY=HEX`, in lent lists.
-ghost use Rattle.std.specs.Prelude.{◌≤◌, length};
+// The keys of a line, in lent lists: where they are in the lent bytes and how long, and their values.
+use crate::readings::{filled, pairs_filled, whole};
+use crate::replies::Fault;
+use crate::script::number::read_number;
+use crate::script::word::{place_of, word, word_count};
 
-use crate::prefixes::first_bytes;
-use crate::script::number::{Number, read_number};
-use crate::script::word::{skip_spaces, until, word_start};
-use crate::script_lists::Count;
-
-// How many bytes the key of a word has, and its value; or a word that is none.
+// How many places of the lists are filled, and how many unknown keys there is room for.
 #[derive(Clone, Copy)]
-enum Key {
-    Is(usize, f64),
-    Not,
+pub struct KeysFilled {
+    pub bytes: usize,
+    pub pairs: usize,
+    pub values: usize,
+    pub room: usize,
 }
 
-fn read_key(w: &[u8]) -> Key {
-    let e = until(w, 0, b'=');
-    if w.len() <= e {
-        return Key::Not;
-    }
-    let after = e + 1;
-    match read_number(&w[after..]) {
-        Number::Is(x) => Key::Is(e, x),
-        Number::Not => Key::Not,
-    }
+// The key of a word `KEY=HEX`, and its value.
+fn key<'a>(w: &'a [u8]) -> Option<(&'a [u8], f64)> {
+    let end = place_of(w, b'=')?;
+    let x = read_number(&w[end + 1..])?;
+    Some((&w[..end], x))
 }
 
-// How many bytes the key of a word has.
-fn key_length(w: &[u8]) -> usize
-    ensures { result ≤ length w.now }
-{
-    until(w, 0, b'=')
-}
-
-// The values of the words from k on.
-pub fn key_values(line: &[u8], k: usize, values: &mut [f64]) -> Count {
-    let mut at = word_start(line, k);
-    let mut n = 0;
-    while at < line.len() {
-        let end = until(line, at + 1, b' ');
-        let Key::Is(len, x) = read_key(&line[at..end]) else {
-            return Count::Not;
-        };
-        if n >= values.len() {
-            return Count::Not;
+// The words from k on, each `KEY=HEX`: their keys are laid end to end. There are 4,096 keys at most, and there is room for all.
+pub fn key_words(
+    line: &[u8],
+    k: usize,
+    bytes: &mut [u8],
+    offsets: &mut [usize; 4096],
+    lengths: &mut [usize; 4096],
+    values: &mut [f64; 4096],
+) -> Result<KeysFilled, Fault> {
+    let mut used = 0;
+    let mut count = 0;
+    for (n, w) in line
+        .split(|b| *b == b' ')
+        .filter(|w| !w.is_empty())
+        .skip(k)
+        .enumerate()
+    {
+        if n >= 4096 {
+            return Err(Fault::Bad);
         }
+        let (name, x) = key(w).ok_or(Fault::Bad)?;
+        offsets[n] = used;
+        lengths[n] = name.len();
         values[n] = x;
-        n += 1;
-        at = skip_spaces(line, end);
+        used = hex_text::put_text(bytes, used, name);
+        count = n + 1;
     }
-    Count::Is(n)
+    Ok(KeysFilled {
+        bytes: used,
+        pairs: count,
+        values: count,
+        room: 4096,
+    })
 }
 
-fn put_place(places: &mut [usize], n: usize, x: usize) {
-    if n < places.len() {
-        places[n] = x;
+// The raw form has four words from k on: the room, the bytes, where the keys are, and the values. More room than there are keys
+// changes nothing.
+pub fn raw_words(
+    line: &[u8],
+    k: usize,
+    bytes: &mut [u8],
+    offsets: &mut [usize],
+    lengths: &mut [usize],
+    values: &mut [f64],
+) -> Result<KeysFilled, Fault> {
+    if word_count(line).saturating_sub(k) != 4 {
+        return Err(Fault::Bad);
     }
-}
-
-// Where the keys of the words from k on are, end to end, and how long.
-pub fn key_pairs(line: &[u8], k: usize, offsets: &mut [usize], lengths: &mut [usize]) {
-    let mut at = word_start(line, k);
-    let mut n = 0;
-    let mut used = 0;
-    while at < line.len() {
-        let end = until(line, at + 1, b' ');
-        let len = key_length(&line[at..end]);
-        put_place(offsets, n, used);
-        put_place(lengths, n, len);
-        used += len;
-        n += 1;
-        at = skip_spaces(line, end);
-    }
-}
-
-// The bytes of these keys, end to end; how many there are.
-pub fn key_bytes(line: &[u8], k: usize, bytes: &mut [u8]) -> usize {
-    let mut at = word_start(line, k);
-    let mut used = 0;
-    while at < line.len() {
-        let end = until(line, at + 1, b' ');
-        let w = &line[at..end];
-        used = hex_text::put_text(bytes, used, first_bytes(w, key_length(w)));
-        at = skip_spaces(line, end);
-    }
-    used
+    let room = whole(line, k)?.min(4096) as usize;
+    Ok(KeysFilled {
+        room,
+        bytes: crate::script_lists::bytes(word(line, k.saturating_add(1)), bytes).ok_or(
+            Fault::Bad,
+        )?,
+        pairs: pairs_filled(line, k.saturating_add(2), offsets, lengths)?,
+        values: filled(line, k.saturating_add(3), values)?,
+    })
 }

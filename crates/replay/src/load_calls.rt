@@ -1,254 +1,137 @@
 // Loads by the words of a line, and the lookup of a load's cells.
+use crate::answers::put_list;
 use crate::device_words::device_of;
-use crate::prefixes::{at_most, first_bytes, first_columns, first_numbers, first_places};
-use crate::readings::{are_lists, both, filled, from_word, number_of, row_if};
-use crate::replies::{Session, put_done, put_name, put_row};
-use crate::script::word::{same, word};
-use loading::LoadAnswer;
+use crate::prefixes::first;
+use crate::readings::{filled, pairs_filled};
+use crate::replies::{Fault, Session, accepted, put_name, words_of};
+use crate::script::number::read_number;
+use crate::script::word::word;
+use pattern::Pattern;
 use record_words::record_of;
-use resolve::Resolution;
 
-// Direct current, 0, or transient, 1, with its alpha; or a word that is neither.
+// Direct current, 0, or transient, 1, with its alpha.
 #[derive(Clone, Copy)]
-struct Kind {
-    good: bool,
-    transient: u64,
-    alpha: f64,
-}
-
-fn kind_by(dc: bool, tran: bool, alpha: f64) -> Kind {
-    if dc {
-        return Kind {
-            good: true,
-            transient: 0,
-            alpha: 0.0,
-        };
-    }
-    Kind {
-        good: tran,
-        transient: 1,
-        alpha,
-    }
+pub struct LoadKind {
+    pub transient: u64,
+    pub alpha: f64,
 }
 
 // `dc` or `tran:ALPHA`
-fn kind_of(w: &[u8]) -> Kind {
-    let after = at_most(5, w.len());
-    let alpha = number_of(&w[after..]);
-    let tran = same(first_bytes(w, 5), b"tran:");
-    kind_by(same(w, b"dc"), both(tran, alpha.good), alpha.x)
+pub fn kind(line: &[u8], k: usize) -> Result<LoadKind, Fault> {
+    let w = word(line, k);
+    if w == b"dc".as_slice() {
+        return Ok(LoadKind {
+            transient: 0,
+            alpha: 0.0,
+        });
+    }
+    let alpha = w
+        .strip_prefix(b"tran:".as_slice())
+        .and_then(|a| read_number(a))
+        .ok_or(Fault::Bad)?;
+    Ok(LoadKind {
+        transient: 1,
+        alpha,
+    })
 }
 
-// The words of a pattern: whether they are one, and how many columns and rows they fill.
+// How many columns and rows of a pattern are filled.
 #[derive(Clone, Copy)]
-pub struct PatternWords {
-    pub good: bool,
+pub struct Filled {
     pub cells: usize,
     pub rows: usize,
 }
 
-// A pattern by two words.
-pub fn read_pattern(
-    first: &[u8],
-    second: &[u8],
+// A pattern by two words from k on.
+pub fn pattern(
+    line: &[u8],
+    k: usize,
     columns: &mut [u32],
     offsets: &mut [usize],
     lengths: &mut [usize],
-) -> PatternWords {
-    let cells = filled(crate::script_lists::columns(first, columns));
-    let rows = filled(crate::script_lists::pairs(second, offsets, lengths));
-    let good = are_lists(cells, rows);
-    PatternWords { good, cells, rows }
+) -> Result<Filled, Fault> {
+    let cells = filled(line, k, columns)?;
+    let rows = pairs_filled(line, k.saturating_add(1), offsets, lengths)?;
+    Ok(Filled { cells, rows })
 }
 
-// The words of a load: whether they are one, its kind, and how many numbers the right-hand side and the values have.
-#[derive(Clone, Copy)]
-pub struct LoadWords {
-    pub good: bool,
-    pub transient: u64,
-    pub alpha: f64,
-    pub numbers: usize,
-    pub count: usize,
-}
-
-// The kind and the right-hand side by the first two words, the values by the word k.
-pub fn read_load(words: &[u8], k: usize, rhs: &mut [f64], values: &mut [f64]) -> LoadWords {
-    let kind = kind_of(word(words, 0));
-    let numbers = filled(crate::script_lists::numbers(word(words, 1), rhs));
-    let count = filled(crate::script_lists::numbers(word(words, k), values));
-    LoadWords {
-        good: both(kind.good, are_lists(numbers, count)),
-        transient: kind.transient,
-        alpha: kind.alpha,
-        numbers,
-        count,
-    }
-}
-
-// The command and both slices whole, or the refusal, from the start of out on.
-pub fn put_load(
-    out: &mut [u8],
-    line: &[u8],
-    row: u64,
-    w: LoadWords,
-    rhs: &[f64],
-    values: &[f64],
-) -> usize {
-    if row != 0 {
-        return put_row(out, row);
-    }
+// The command and both slices whole, from the start of out on.
+pub fn put_load(out: &mut [u8], line: &[u8], rhs: &[f64], values: &[f64]) -> usize {
     let n = put_name(out, line);
-    let m = crate::answers::put_list(out, n, first_numbers(rhs, w.numbers));
-    crate::answers::put_list(out, m, first_numbers(values, w.count))
-}
-
-// Loads into the first places of both slices.
-fn load_first(
-    device: [f64; 113],
-    w: LoadWords,
-    p: PatternWords,
-    rhs: &mut [f64],
-    values: &mut [f64],
-    columns: &[u32],
-    offsets: &[usize],
-    lengths: &[usize],
-) -> u64 {
-    let start = 0;
-    let numbers = at_most(w.numbers, rhs.len());
-    let count = at_most(w.count, values.len());
-    record_loading::load(
-        record_of(&device),
-        w.transient,
-        w.alpha,
-        &mut rhs[start..numbers],
-        &mut values[start..count],
-        first_columns(columns, p.cells),
-        first_places(offsets, p.rows),
-        first_places(lengths, p.rows),
-    )
+    let m = put_list(out, n, rhs);
+    put_list(out, m, values)
 }
 
 // `load dc|tran:ALPHA RHS COLUMNS ROWS VALUES`
-pub fn load(device: [f64; 113], line: &[u8], out: &mut [u8]) -> usize {
+pub fn load(session: &Session, line: &[u8], out: &mut [u8]) -> Result<usize, Fault> {
     let mut rhs = [0.0; 4096];
     let mut columns = [0u32; 4096];
     let mut offsets = [0usize; 4096];
     let mut lengths = [0usize; 4096];
     let mut values = [0.0; 4096];
-    let w = read_load(from_word(line, 1), 4, &mut rhs, &mut values);
-    let p = read_pattern(
-        word(line, 3),
-        word(line, 4),
-        &mut columns,
-        &mut offsets,
-        &mut lengths,
+    let kind = kind(line, 1)?;
+    let numbers = filled(line, 2, &mut rhs)?;
+    let p = pattern(line, 3, &mut columns, &mut offsets, &mut lengths)?;
+    let count = filled(line, 5, &mut values)?;
+    let row = record_loading::load(
+        record_of(&words_of(session)),
+        kind.transient,
+        kind.alpha,
+        &mut rhs[..numbers.min(4096)],
+        &mut values[..count.min(4096)],
+        first(&columns, p.cells),
+        first(&offsets, p.rows),
+        first(&lengths, p.rows),
     );
-    let row = load_first(
-        device,
-        w,
-        p,
-        &mut rhs,
-        &mut values,
-        &columns,
-        &offsets,
-        &lengths,
-    );
-    put_load(
-        out,
-        line,
-        row_if(both(w.good, p.good), row),
-        w,
-        &rhs,
-        &values,
-    )
+    accepted(row)?;
+    Ok(put_load(out, line, first(&rhs, numbers), first(&values, count)))
 }
 
-// The cells that were looked up are kept. A refusal keeps those from before.
-fn keep(session: Session, row: u64, cells: [usize; 37], end: usize) -> Session {
-    let mut next = session;
-    next.end = end;
-    if row == 0 {
-        next.cells = cells;
-        next.resolved = true;
-    }
-    next
+// The device itself stands only here and in `loaded`: with its hundred fields in a longer function the check takes minutes.
+fn looked_up(words: [f64; 113], pattern: Pattern<'_>) -> Result<[usize; 37], Fault> {
+    Ok(resolve::resolve(device_of(&words), pattern)?)
 }
 
-fn look_up(
-    device: [f64; 113],
-    p: PatternWords,
-    columns: &[u32],
-    offsets: &[usize],
-    lengths: &[usize],
-) -> Resolution {
-    resolve::resolve(
-        device_of(&device),
-        first_columns(columns, p.cells),
-        first_places(offsets, p.rows),
-        first_places(lengths, p.rows),
-    )
-}
-
-// `resolve COLUMNS ROWS`
-pub fn resolve(session: Session, line: &[u8], out: &mut [u8]) -> Session {
+// `resolve COLUMNS ROWS`. The cells that were looked up are kept. A refusal keeps those from before.
+pub fn resolve(session: &mut Session, line: &[u8], out: &mut [u8]) -> Result<usize, Fault> {
     let mut columns = [0u32; 4096];
     let mut offsets = [0usize; 4096];
     let mut lengths = [0usize; 4096];
-    let p = read_pattern(
-        word(line, 1),
-        word(line, 2),
-        &mut columns,
-        &mut offsets,
-        &mut lengths,
-    );
-    let device = session.words;
-    let found = look_up(device, p, &columns, &offsets, &lengths);
-    let cells = found.cells;
-    let row = row_if(p.good, record::wide(found.row));
-    keep(session, row, cells, put_done(out, line, row))
+    let p = pattern(line, 1, &mut columns, &mut offsets, &mut lengths)?;
+    let pattern = Pattern {
+        columns: first(&columns, p.cells),
+        offsets: first(&offsets, p.rows),
+        lengths: first(&lengths, p.rows),
+    };
+    session.cells = Some(looked_up(words_of(session), pattern)?);
+    Ok(put_name(out, line))
 }
 
-fn row_of(answer: LoadAnswer) -> u64 {
-    match answer {
-        LoadAnswer::Done => 0,
-        LoadAnswer::Refused(row) => record::wide(row),
-    }
-}
-
-// Loads by the kept cells into the first places of both slices.
-fn load_kept(
-    device: [f64; 113],
-    w: LoadWords,
+fn loaded(
+    words: [f64; 113],
+    kind: LoadKind,
     cells: &[usize; 37],
     rhs: &mut [f64],
     values: &mut [f64],
-) -> u64 {
-    let start = 0;
-    let numbers = at_most(w.numbers, rhs.len());
-    let count = at_most(w.count, values.len());
-    row_of(charges_resolved::load_resolved(
-        device_of(&device),
-        record_loading::kind_from(w.transient, w.alpha),
-        cells,
-        &mut rhs[start..numbers],
-        &mut values[start..count],
-    ))
+) -> Result<(), Fault> {
+    let kind = record_loading::kind_from(kind.transient, kind.alpha);
+    Ok(charges_resolved::load_resolved(device_of(&words), kind, cells, rhs, values)?)
 }
 
 // `loadresolved dc|tran:ALPHA RHS VALUES`; bad where no cells are kept
-pub fn load_resolved(session: Session, line: &[u8], out: &mut [u8]) -> usize {
+pub fn load_resolved(session: &Session, line: &[u8], out: &mut [u8]) -> Result<usize, Fault> {
     let mut rhs = [0.0; 4096];
     let mut values = [0.0; 4096];
-    let device = session.words;
-    let cells = session.cells;
-    let w = read_load(from_word(line, 1), 2, &mut rhs, &mut values);
-    let row = load_kept(device, w, &cells, &mut rhs, &mut values);
-    put_load(
-        out,
-        line,
-        row_if(both(w.good, session.resolved), row),
-        w,
-        &rhs,
-        &values,
-    )
+    let kind = kind(line, 1)?;
+    let numbers = filled(line, 2, &mut rhs)?;
+    let count = filled(line, 3, &mut values)?;
+    let cells = session.cells.ok_or(Fault::Bad)?;
+    loaded(
+        words_of(session),
+        kind,
+        &cells,
+        &mut rhs[..numbers.min(4096)],
+        &mut values[..count.min(4096)],
+    )?;
+    Ok(put_load(out, line, first(&rhs, numbers), first(&values, count)))
 }

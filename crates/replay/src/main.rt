@@ -19,122 +19,87 @@ mod replies;
 mod script;
 mod script_lists;
 
-use crate::prefixes::first_bytes;
+use crate::prefixes::first;
 use crate::replies::Session;
-use crate::script::word::until;
+use crate::script::word::place_of;
 use record_words::{record_of, words_of};
 use std::io;
 use std::io::Read;
 
-// Where the reading is: at the place `at` of the n bytes that the last read brought. The last line has `len` bytes, and with it the
-// input is over or not. The reading knows nothing of the session: functions that hand the device on are dear to check.
+// Where the reading is: at the place `at` of the n bytes that the last read brought. The reading knows nothing of the session.
 #[derive(Clone, Copy)]
 pub struct Reading {
     pub at: usize,
     pub n: usize,
-    pub len: usize,
-    pub over: bool,
 }
 
-// The bytes of a part of what was read, behind the first len bytes of the line. What has no room is left out.
-fn add(line: &mut [u8], len: usize, buf: &[u8], at: usize, end: usize) -> usize {
-    if buf.len() < end {
-        return len;
-    }
-    if end < at {
-        return len;
-    }
-    hex_text::put_text(line, len, &buf[at..end])
-}
-
-// The next line, up to its newline, or up to the end of the input. One that is too long fills the buffer, which has room for a
-// byte more than a line has. A proved loop has to end, and nothing says that the input does: the turns count down from a number that
-// no run uses up.
+// How many bytes the next line has, up to its newline, or up to the end of the input, and where the reading is behind it; nowhere where
+// the input is over. A line that is too long fills the buffer, which has room for a byte more than a line has: what has no room is left
+// out. A proved loop has to end, and nothing says that the input does.
 fn next_line(
     input: &mut impl Read,
     last: Reading,
     buf: &mut [u8; 65536],
     line: &mut [u8; 65537],
-) -> io::Result<Reading> {
+) -> io::Result<(usize, Option<Reading>)> {
     let mut at = last.at;
     let mut n = last.n;
     let mut len = 0;
-    let mut more = true;
-    let mut turns = u64::MAX;
-    while turns > 0 && more {
-        let end = until(first_bytes(buf, n), at, 10);
-        len = add(line, len, buf, at, end);
-        if end < n {
-            let after = end + 1;
-            return Ok(Reading {
-                at: after,
-                n,
-                len,
-                over: false,
-            });
+    for _ in 0..u64::MAX {
+        let read = first(buf, n);
+        let rest = &read[at.min(read.len())..];
+        match place_of(rest, b'\n') {
+            Some(end) => {
+                len = hex_text::put_text(line, len, &rest[..end]);
+                let at = at.saturating_add(end + 1);
+                return Ok((len, Some(Reading { at, n })));
+            }
+            None => len = hex_text::put_text(line, len, rest),
         }
         at = 0;
         n = input.read(buf)?;
-        more = n > 0;
-        turns -= 1;
+        if n == 0 {
+            break;
+        }
     }
-    Ok(Reading {
-        at: 0,
-        n: 0,
-        len,
-        over: true,
-    })
+    Ok((len, None))
 }
 
 // The first n bytes and a newline to standard output; nothing where n is 0.
 fn write_line(rt: &impl Print, out: &mut [u8], n: usize) -> io::Result<()> {
-    if n > 0 {
-        let end = hex_text::put_text(out, n, b"\n");
-        if end <= out.len() {
-            let start = 0;
-            rt.write_all(&out[start..end])?;
-        }
+    if n == 0 {
+        return Ok(());
     }
-    Ok(())
+    let end = hex_text::put_text(out, n, b"\n");
+    rt.write_all(first(out, end))
 }
 
 // The line's first len bytes are answered.
 fn answer_line(
     rt: &impl Print,
-    session: Session,
+    session: &mut Session,
     bank: &mut [[f64; 113]; 65],
-    line: &[u8; 65537],
-    len: usize,
-) -> io::Result<Session> {
+    line: &[u8],
+) -> io::Result<()> {
     let mut out = [0u8; 163840];
-    let next = commands::answer(session, bank, first_bytes(line, len), &mut out);
-    write_line(rt, &mut out, next.end)?;
-    Ok(next)
+    let end = commands::answer(session, bank, line, &mut out);
+    write_line(rt, &mut out, end)
 }
 
-// The bank of devices is held beside the session: of 64 places, and one more that is never written. The turns count down as in
-// `next_line`.
-fn run(rt: &impl Print, input: &mut impl Read, first: Session) -> io::Result<()> {
-    let words = first.words;
+// The bank of devices is held beside the session: of 64 places, and one more that is never written.
+fn run(rt: &impl Print, input: &mut impl Read, words: [f64; 113]) -> io::Result<()> {
+    let mut session = replies::first_session(words);
     let mut bank = [words; 65];
     let mut buf = [0u8; 65536];
     let mut line = [0u8; 65537];
-    let mut next = first;
-    let mut r = Reading {
-        at: 0,
-        n: 0,
-        len: 0,
-        over: false,
-    };
-    let mut turns = u64::MAX;
-    while turns > 0 && !r.over {
-        r = next_line(input, r, &mut buf, &mut line)?;
-        next = answer_line(rt, next, &mut bank, &line, r.len)?;
-        if next.reset {
-            next = first;
-            bank = [words; 65];
+    let mut reading = Reading { at: 0, n: 0 };
+    for _ in 0..u64::MAX {
+        let (len, behind) = next_line(input, reading, &mut buf, &mut line)?;
+        answer_line(rt, &mut session, &mut bank, first(&line, len))?;
+        match behind {
+            Some(r) => reading = r,
+            None => break,
         }
-        turns -= 1;
     }
     Ok(())
 }
@@ -144,9 +109,5 @@ fn run(rt: &impl Print, input: &mut impl Read, first: Session) -> io::Result<()>
 fn main(rt: HostRuntime) -> io::Result<()> {
     let nothing = [0.0; 113];
     let o = record_card::from_model_params(record_of(&nothing), 0, &[], &[], &[], &[], &mut []);
-    run(
-        &rt,
-        &mut rt.stdin(),
-        replies::first_session(words_of(o.device)),
-    )
+    run(&rt, &mut rt.stdin(), words_of(o.device))
 }

@@ -1,49 +1,13 @@
 // The first n places of a slice, or all where there are fewer.
-ghost use Rattle.std.specs.Prelude.{◌≤◌, ◌≡◌, take};
+ghost use Rattle.std.specs.Prelude.{◌≡◌, take};
 
-pub fn first_numbers<'a>(numbers: &'a [f64], n: usize) -> &'a [f64]
-    ensures { result.now ≡ take n numbers.now }
+pub fn first<'a, T>(xs: &'a [T], n: usize) -> &'a [T]
+    ensures { result.now ≡ take n xs.now }
 {
-    if n <= numbers.len() {
-        let start = 0;
-        return &numbers[start..n];
-    }
-    numbers
+    &xs[..n.min(xs.len())]
 }
 
-pub fn first_places<'a>(places: &'a [usize], n: usize) -> &'a [usize]
-    ensures { result.now ≡ take n places.now }
-{
-    if n <= places.len() {
-        let start = 0;
-        return &places[start..n];
-    }
-    places
-}
-
-pub fn first_columns<'a>(columns: &'a [u32], n: usize) -> &'a [u32]
-    ensures { result.now ≡ take n columns.now }
-{
-    if n <= columns.len() {
-        let start = 0;
-        return &columns[start..n];
-    }
-    columns
-}
-
-pub fn first_bytes<'a>(bytes: &'a [u8], n: usize) -> &'a [u8]
-    ensures { result.now ≡ take n bytes.now }
-{
-    if n <= bytes.len() {
-        let start = 0;
-        return &bytes[start..n];
-    }
-    bytes
-}
-
-// The lesser of two counts. The functions that hand a device on cut by it, so that they need no test of their own.
-pub fn at_most(n: usize, most: usize) -> usize
-    ensures { result ≤ most }
-{
-    if n < most { n } else { most }
+pub fn first_mut<'a, T>(xs: &'a mut [T], n: usize) -> &'a mut [T] {
+    let end = n.min(xs.len());
+    &mut xs[..end]
 }

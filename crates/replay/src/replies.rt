@@ -1,80 +1,72 @@
 // What is kept between two lines, and the texts that several commands answer.
-use crate::answers::{put_between, put_next_whole, put_node};
+use crate::answers::{put_behind, put_between, put_node};
 use crate::script::word::word;
-use device::NodeId;
+use device::{NodeId, Refusal};
 use from_record::node_from;
 use record_small_signal::{NoiseOutcome, ReactanceRecord, ReactancesOutcome};
 
-// What is kept between two lines: the device, whether a `resolve` was accepted, and the cells of the last that was. The device is kept
-// as its 113 words: to the checker they are one list, where the device itself is a hundred fields that every step of every function
-// would write out. Before any card the device is that of a card with no keys, and is not present: calls are tested on it and none is
-// accepted. The last answer's text ends at `end`. After a `reset` the first session is to follow.
+// What is kept between two lines: the device, if a card was accepted, and the cells of the last `resolve` that was. The device is kept
+// as its 113 words: to the checker they are one list, where the device itself is a hundred fields. Before any card calls are tested on
+// `first`, the device of a card with no keys, and none is accepted.
 #[derive(Clone, Copy)]
 pub struct Session {
-    pub words: [f64; 113],
-    pub present: bool,
-    pub resolved: bool,
-    pub cells: [usize; 37],
-    pub end: usize,
-    pub reset: bool,
+    pub first: [f64; 113],
+    pub device: Option<[f64; 113]>,
+    pub cells: Option<[usize; 37]>,
 }
 
-// The session before any call, by the device of a card with no keys.
-pub fn first_session(words: [f64; 113]) -> Session {
-    let cells = [0usize; 37];
+// The session before any call.
+pub fn first_session(first: [f64; 113]) -> Session {
     Session {
-        words,
-        present: false,
-        resolved: false,
-        cells,
-        end: 0,
-        reset: false,
+        first,
+        device: None,
+        cells: None,
     }
 }
 
-// The session with the device as it was, after an answer that ends at `end`. The command 12 is `reset`.
-pub fn ended(session: Session, number: usize, end: usize) -> Session {
-    let mut next = session;
-    next.end = end;
-    next.reset = number == 12;
-    next
+// The device that calls are made on.
+pub fn words_of(session: &Session) -> [f64; 113] {
+    session.device.unwrap_or(session.first)
 }
 
-// The session after a call that changes the device where no row refuses it.
-pub fn left(session: Session, row: u64, words: [f64; 113], end: usize) -> Session {
-    let mut next = session;
-    next.end = end;
-    if row == 0 {
-        next.words = words;
-        next.present = true;
+// Why a line has no answer of its own: its words are not understood, or a row refuses its call.
+#[derive(Clone, Copy)]
+pub enum Fault {
+    Bad,
+    Refused(u64),
+}
+
+// The refusal that a record's function answers, 0 for none. 100 is a tag that the library does not know.
+pub fn accepted(row: u64) -> Result<(), Fault> {
+    match row {
+        0 => Ok(()),
+        100 => Err(Fault::Bad),
+        _ => Err(Fault::Refused(row)),
     }
-    next
 }
 
-pub fn put_bad(out: &mut [u8]) -> usize {
-    hex_text::put_text(out, 0, b"bad")
-}
-
-// The refusal by a number. 100 is that of words that are not understood (`readings::row_if`).
-pub fn put_row(out: &mut [u8], row: u64) -> usize {
-    if row == 100 {
-        return put_bad(out);
+impl From<Refusal> for Fault {
+    fn from(refusal: Refusal) -> Fault {
+        match refusal {
+            Refusal::Tag => Fault::Bad,
+            _ => Fault::Refused(record::wide(u8::from(refusal))),
+        }
     }
-    let n = hex_text::put_text(out, 0, b"refused");
-    put_next_whole(out, n, row)
+}
+
+pub fn put_fault(out: &mut [u8], fault: Fault) -> usize {
+    match fault {
+        Fault::Bad => hex_text::put_text(out, 0, b"bad"),
+        Fault::Refused(row) => {
+            let n = hex_text::put_text(out, 0, b"refused");
+            put_behind(out, n, b" ", row)
+        }
+    }
 }
 
 // A line's command, which is the answer of a call that has no other.
 pub fn put_name(out: &mut [u8], line: &[u8]) -> usize {
     hex_text::put_text(out, 0, word(line, 0))
-}
-
-// The command, or the refusal.
-pub fn put_done(out: &mut [u8], line: &[u8], row: u64) -> usize {
-    if row != 0 {
-        return put_row(out, row);
-    }
-    put_name(out, line)
 }
 
 fn put_next_node(out: &mut [u8], at: usize, node: NodeId) -> usize {
@@ -84,7 +76,7 @@ fn put_next_node(out: &mut [u8], at: usize, node: NodeId) -> usize {
 
 pub fn put_bound(out: &mut [u8], extra: usize, drain: NodeId, source: NodeId) -> usize {
     let a = hex_text::put_text(out, 0, b"bind");
-    let b = put_next_whole(out, a, extra as u64);
+    let b = put_behind(out, a, b" ", extra);
     let c = put_next_node(out, b, drain);
     put_next_node(out, c, source)
 }
@@ -96,26 +88,16 @@ fn put_reactance(out: &mut [u8], at: usize, r: ReactanceRecord) -> usize {
     put_between(out, at, node_from(r.pos), node_from(r.neg), r.capacitance)
 }
 
-fn put_capacitors(out: &mut [u8], o: ReactancesOutcome) -> usize {
-    let mut n = hex_text::put_text(out, 0, b"reactances");
-    n = put_reactance(out, n, o.gs);
-    n = put_reactance(out, n, o.gd);
-    n = put_reactance(out, n, o.gb);
-    n = put_reactance(out, n, o.bs);
-    put_reactance(out, n, o.bd)
-}
-
 pub fn put_reactances(out: &mut [u8], o: ReactancesOutcome) -> usize {
-    if o.refusal != 0 {
-        return put_row(out, o.refusal);
-    }
-    put_capacitors(out, o)
+    let a = hex_text::put_text(out, 0, b"reactances");
+    let b = put_reactance(out, a, o.gs);
+    let c = put_reactance(out, b, o.gd);
+    let d = put_reactance(out, c, o.gb);
+    let e = put_reactance(out, d, o.bs);
+    put_reactance(out, e, o.bd)
 }
 
-pub fn put_noise(out: &mut [u8], row: u64, o: NoiseOutcome) -> usize {
-    if row != 0 {
-        return put_row(out, row);
-    }
+pub fn put_noise(out: &mut [u8], o: NoiseOutcome) -> usize {
     let n = hex_text::put_text(out, 0, b"noise");
     if o.tag == 0 {
         return n;

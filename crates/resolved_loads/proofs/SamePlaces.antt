@@ -10,8 +10,7 @@ use lib.Dec.{ltb}
 use lib.Ieee.{Float, neg}
 use borrow.Author.Tests.{lt-ltb, le-ltb}
 use Rattle.pattern.specs.Pattern.{cell_of}
-use Rattle.pattern.specs.declared.Found.{Found}
-use Rattle.pattern.specs.declared.Found.TheVariants.{At as FoundAt, Absent}
+use Rattle.std.specs.Prelude.{Option, Some, None}
 use Rattle.device.specs.declared.NodeId.{NodeId}
 use Rattle.device.specs.declared.NodeId.TheVariants.{Ground, At}
 use Rattle.stamps.specs.Stamps.{position}
@@ -27,7 +26,7 @@ use Rattle.load_resolved.proofs.Parts.{added_append}
 
 -- every place that the pattern gives lies among n values
 pub record Within (P : Pattern) (n : ℕ) : Type 0 where
-  pub within : (r c p : ℕ) → cell_of P.columns P.offsets P.lengths r c ≡ FoundAt p → p < n
+  pub within : (r c p : ℕ) → cell_of P.columns P.offsets P.lengths r c ≡ Some p → p < n
   pub room : n ≤ missing_number
 
 -- contributions and their places: as many of each, tested and added alike
@@ -37,10 +36,10 @@ pub record Same (P : Pattern) (n : ℕ) (cs : List Contribution) (ps : List ℕ)
   pub added : (xs : List Float) → length xs ≤ missing_number → add_stored cs ps xs ≡ add_cells P cs xs
 
 module _ (P : Pattern) (n : ℕ) (h : Within P n) where
-  found_tested : (r c : ℕ) (f : Found) → cell_of P.columns P.offsets P.lengths r c ≡ f → ltb (place_number (found_place f)) n ≡ there (found_place f)
+  found_tested : (r c : ℕ) (f : Option ℕ) → cell_of P.columns P.offsets P.lengths r c ≡ f → ltb (place_number (found_place f)) n ≡ there (found_place f)
   unfolding place_number found_place there
-  found_tested r c (FoundAt p) e = lt-ltb p n (h.within r c p e)
-  found_tested r c Absent e = le-ltb missing_number n h.room
+  found_tested r c (Some p) e = lt-ltb p n (h.within r c p e)
+  found_tested r c None e = le-ltb missing_number n h.room
 
   one_tested : (r c : NodeId) → (grounded (position r c) || ltb (number_of P r c) n) ≡ there (place_of P r c)
   unfolding grounded place_of there
@@ -48,10 +47,10 @@ module _ (P : Pattern) (n : ℕ) (h : Within P n) where
   one_tested (At i) Ground = refl
   one_tested (At i) (At j) = found_tested i j (cell_of P.columns P.offsets P.lengths i j) refl
 
-  found_added : (f : Found) (x : Float) (xs : List Float) → length xs ≤ missing_number → add_place (at (place_number (found_place f))) x xs ≡ add_place (found_place f) x xs
+  found_added : (f : Option ℕ) (x : Float) (xs : List Float) → length xs ≤ missing_number → add_place (at (place_number (found_place f))) x xs ≡ add_place (found_place f) x xs
   unfolding place_number found_place add_place
-  found_added (FoundAt p) x xs room = refl
-  found_added Absent x xs room = add_outside xs missing_number x room
+  found_added (Some p) x xs room = refl
+  found_added None x xs room = add_outside xs missing_number x room
 
   one_added : (r c : NodeId) (x : Float) (xs : List Float) → length xs ≤ missing_number → add_place (stored_place (position r c) (number_of P r c)) x xs ≡ add_place (place_of P r c) x xs
   unfolding stored_place grounded place_of

@@ -5,9 +5,10 @@ use mathlib.Core.List.{List, [], ◌∷◌, ◌++◌}
 use Prim.Native.Nat.{ℕ, zero, suc, ◌+◌, ◌-◌, ◌<◌, ◌≤◌}
 use native.Mathlib.Omega.{arith}
 use native.Mathlib.Nat.{add-zero}
-use lib.ListN.{get_or}
+use lib.ListN.{length, get_or, take, drop}
+use lib.Seq.{drop-cons}
+use Rattle.std.specs.List.{list_all}
 use lib.Dec.{ltb}
-use borrow.Author.Tests.{lt-ltb, le-ltb}
 use Rattle.pattern.proofs.Rows.{and_left, and_right}
 use Rattle.device.specs.declared.Charges.{Charges}
 use Rattle.stamps.specs.Stamps.{position}
@@ -50,24 +51,13 @@ below_at n w k (suc m) (suc j) e h =
     subst (λ (i : ℕ). ltb (get_or w i 0) n ≡ true) moved
     (below_at n w (suc k) m j (and_right (ltb (get_or w k 0) n) (all_below n (numbers_from w (suc k) m)) e) (omega arith))
 
--- the places from k on, of those up to the 37th
-module _ (n : ℕ) (w : List ℕ) (k : ℕ) (h : k < 37) where
-  next : all_below n (numbers_from w k (37 - k)) ≡ (ltb (get_or w k 0) n && all_below n (numbers_from w (k + 1) (37 - (k + 1))))
-  unfolding all_below numbers_from
-  next =
-      let some : 37 - k ≡ suc (37 - (k + 1)) = omega arith in
-      let later : suc k ≡ k + 1 = omega arith in
-      ap (λ (m : ℕ). all_below n (numbers_from w k m)) some ∙ ap (λ (j : ℕ). ltb (get_or w k 0) n && all_below n (numbers_from w j (37 - (k + 1)))) later
-
-  pub not_below_here : n ≤ get_or w k 0 → all_below n (numbers_from w k (37 - k)) ≡ false
-  not_below_here e = next ∙ ap (λ (b : Bool). b && all_below n (numbers_from w (k + 1) (37 - (k + 1)))) (le-ltb (get_or w k 0) n e)
-
-  pub below_here : get_or w k 0 < n → all_below n (numbers_from w k (37 - k)) ≡ all_below n (numbers_from w (k + 1) (37 - (k + 1)))
-  below_here e = next ∙ ap (λ (b : Bool). b && all_below n (numbers_from w (k + 1) (37 - (k + 1)))) (lt-ltb (get_or w k 0) n e)
-
-pub none_left : (n : ℕ) (w : List ℕ) (k : ℕ) → k ≤ 37 → 37 ≤ k → all_below n (numbers_from w k (37 - k)) ≡ true
+-- asked of each place from the k-th on
+pub below_each : (n : ℕ) (w : List ℕ) (k m : ℕ) → k + m ≤ length w → list_all (λ (p : ℕ). ltb p n) (take m (drop k w)) ≡ all_below n (numbers_from w k m)
 unfolding all_below numbers_from
-none_left n w k h e = let none : 37 - k ≡ 0 = omega arith in ap (λ (m : ℕ). all_below n (numbers_from w k m)) none
+below_each n w k zero e = refl
+below_each n w k (suc m) e =
+    let h : k < length w = omega arith in
+    rw (drop-cons w k 0 h) (ap (λ (b : Bool). ltb (get_or w k 0) n && b) (below_each n w (suc k) m (omega arith)))
 
 cell_below : (n row column p : ℕ) → ltb p n ≡ true → cell_there n row column p ≡ true
 unfolding cell_there

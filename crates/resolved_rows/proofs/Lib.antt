@@ -1,4 +1,4 @@
-mod Folds
+pub mod Folds
 pub mod Below
 pub mod Held
 pub mod Outcomes

@@ -24,6 +24,13 @@ pairs_stored n (c ∷ cs) (p ∷ ps) = (grounded c || ltb p n) && pairs_stored n
 unfoldable pub pair_stored : ℕ → ℕ → ℕ → ℕ → ℕ → ℕ → ℕ → Bool
 pair_stored n a b aa ab ba bb = pairs_stored n (pair_between (node_at a) (node_at b) []) (aa ∷ ab ∷ ba ∷ bb ∷ [])
 
+-- the channel's four cells in a node's row: the gate, the drain, the source and the bulk
+unfoldable pub row_stored : ℕ → ℕ → Nodes → ℕ → ℕ → ℕ → ℕ → Bool
+row_stored n row t pg pd ps pb =
+    pairs_stored n
+    (position (node_at row) (node_at t.gate) ∷ position (node_at row) (node_at t.drain) ∷ position (node_at row) (node_at t.source) ∷ position (node_at row) (node_at t.bulk) ∷ [])
+    (pg ∷ pd ∷ ps ∷ pb ∷ [])
+
 -- a conducting branch's four cells
 unfoldable pub branch_stored : ℕ → Bool → ℕ → ℕ → ℕ → ℕ → ℕ → ℕ → Bool
 branch_stored n conducts a b aa ab bb ba =

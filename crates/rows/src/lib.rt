@@ -3,56 +3,45 @@
 #![tactic(auto)]
 
 ghost use Rattle.std.specs.Prelude.{◌≡◌};
-ghost use Rattle.device.specs.Stages.{unevaluated};
+ghost use Rattle.device.specs.Refusals.{number, outcome};
 ghost use Rattle.rows.specs.Rows.{node_voltage_of, voltages_of, noise_row_of};
 
 use bias::Voltages;
-use device::{NodeId, Stage, Terminals};
+use device::{NodeId, Refusal, Stage, Terminals};
 use temperature::Kelvin;
 
 // What a node is at: 0 at ground.
+#[tactic(auto, unfolding(crate::specs::Rows::node_voltage_of))]
 fn voltage(x: &[f64], node: NodeId) -> f64
     ensures { result ≡ node_voltage_of x.now node }
 {
     match node {
-        NodeId::Ground => 0.0,
-        NodeId::At(i) => {
-            if i < x.len() {
-                return x[i];
-            }
-            0.0
-        }
+        NodeId::At(i) if i < x.len() => x[i],
+        _ => 0.0,
     }
 }
 
+#[tactic(auto, unfolding(crate::specs::Rows::voltages_of))]
 pub fn voltages(x: &[f64], t: Terminals) -> Voltages
     ensures { result ≡ voltages_of x.now t }
 {
-    let drain = t.drain;
-    let gate = t.gate;
-    let source = t.source;
-    let bulk = t.bulk;
-    let vd = voltage(x, drain);
-    let vg = voltage(x, gate);
-    let vs = voltage(x, source);
-    let vb = voltage(x, bulk);
-    Voltages { vd, vg, vs, vb }
+    Voltages {
+        vd: voltage(x, t.drain),
+        vg: voltage(x, t.gate),
+        vs: voltage(x, t.source),
+        vb: voltage(x, t.bulk),
+    }
 }
 
-pub fn unevaluated(stage: Stage) -> bool
-    ensures { result ≡ unevaluated stage }
-{
-    device::before(stage, Stage::Evaluated)
-}
-
-pub fn noise_row(stage: Stage, temperature: Kelvin) -> u8
-    ensures { result ≡ noise_row_of stage temperature }
+#[tactic(auto, unfolding(crate::specs::Rows::noise_row_of))]
+pub fn noise_row(stage: Stage, temperature: Kelvin) -> Result<(), Refusal>
+    ensures { number (outcome result) ≡ noise_row_of stage temperature }
 {
     if device::outside_temperatures(temperature) {
-        return 6;
+        return Err(Refusal::Temperature);
     }
-    if unevaluated(stage) {
-        return 10;
+    if stage.is_unevaluated() {
+        return Err(Refusal::Stage);
     }
-    0
+    Ok(())
 }

@@ -26,7 +26,7 @@ pub fn scaled_phi(phi_nom: f64, t: Kelvin, tnom: Kelvin) -> f64
     (t.0 / REFTEMP_K) * phio(phi_nom, tnom) + pbfact(t)
 }
 
-// A junction's built-in potential at t, by the same law.
+// A junction's built-in potential at t, by the same law: docs/PORTED.md names both functions, as the Rust has them.
 pub fn scaled_junction_potential(vj_nom: f64, t: Kelvin, tnom: Kelvin) -> f64
     ensures { result ≡ scaled_junction_potential_of vj_nom t tnom }
 {

@@ -12,8 +12,6 @@ use Rattle.device.specs.declared.Card.{Card}
 use Rattle.device.specs.declared.Mosfet1.{Mosfet1}
 use Rattle.device.specs.declared.Scaled.{Scaled}
 use Rattle.device.specs.declared.Stage.{Stage}
-use Rattle.setup.specs.declared.SetupAnswer.{SetupAnswer}
-use Rattle.setup.specs.declared.SetupAnswer.TheVariants.{Done, Refused}
 
 -- the formulas of `setup_model`; a polarity below 0 is PMOS
 abbrev pub scaled_at : Card → Kelvin → Scaled
@@ -55,11 +53,6 @@ scaled_to d s =
       disc = d.disc;
       stage = scaled_stage d.stage;
     }
-
--- SetupAnswer by its cases, for scaling and for binding
-abbrev pub outcome_of_setup : SetupAnswer → Outcome Mosfet1
-outcome_of_setup (Done d) = done d
-outcome_of_setup (Refused n) = refused n
 
 -- its refusals; row 10: before the geometry
 abbrev pub scaling_rows : Mosfet1 → Kelvin → List Row

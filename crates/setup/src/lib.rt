@@ -3,13 +3,11 @@
 #![tactic(auto)]
 
 ghost use Rattle.std.specs.Prelude.{◌≡◌, ◌+◌, ◌<◌, ◌^◌};
-ghost use Rattle.device.specs.Nodes.{node_beyond, any_node_beyond};
+ghost use Rattle.device.specs.Refusals.{outcome};
 ghost use Rattle.setup.specs.Scaling.{
   scaled_at,
   potentials_low,
-  scaled_stage,
   scaled_to,
-  outcome_of_setup,
   scaling_of,
 };
 ghost use Rattle.setup.specs.Binding.{
@@ -18,21 +16,16 @@ ghost use Rattle.setup.specs.Binding.{
   inner_drain,
   inner_source,
   terminals_of,
-  node_limit,
   outside_binding,
   bound_to,
   binding_of,
 };
 
-use device::{Card, Mosfet1, NodeId, Scaled, Stage, Terminals};
+use device::{Card, Mosfet1, NodeId, Refusal, Scaled, Stage, Terminals};
 use temperature::Kelvin;
 
-// The device after a scaling or a binding, or the number of the refusal.
-#[derive(Clone, Copy)]
-pub enum SetupAnswer {
-    Done(Mosfet1),
-    Refused(u8),
-}
+// No node's number is above 2^32 - 1.
+const NODE_LIMIT: usize = 1 << 32;
 
 // The parameters at a temperature, from the card's.
 fn scaled_at(card: Card, t: Kelvin) -> Scaled
@@ -57,81 +50,49 @@ fn scaled_at(card: Card, t: Kelvin) -> Scaled
 fn potentials_low(s: Scaled) -> bool
     ensures { result ≡ potentials_low s }
 {
-    if s.phi_t < 0.05 {
-        return true;
-    }
-    s.pb_t < 0.05
-}
-
-// A later stage stays.
-fn scaled_stage(stage: Stage) -> Stage
-    ensures { result ≡ scaled_stage stage }
-{
-    if device::before(stage, Stage::Scaled) {
-        Stage::Scaled
-    } else {
-        stage
-    }
+    s.phi_t < 0.05 || s.pb_t < 0.05
 }
 
 fn scaled_to(device: Mosfet1, scaled: Scaled) -> Mosfet1
     ensures { result ≡ scaled_to device scaled }
 {
-    let card = device.card;
-    let geometry = device.geometry;
-    let terminals = device.terminals;
-    let point = device.point;
-    let charges = device.charges;
-    let histories = device.histories;
-    let disc = device.disc;
-    let old = device.stage;
-    let stage = scaled_stage(old);
     Mosfet1 {
-        card,
-        geometry,
         scaled,
-        terminals,
-        point,
-        charges,
-        histories,
-        disc,
-        stage,
+        // A later stage stays.
+        stage: device.stage.max(Stage::Scaled),
+        ..device
     }
 }
 
 // Scales the device's parameters to a temperature.
-pub fn setup_model(device: Mosfet1, temperature: Kelvin) -> SetupAnswer
-    ensures { outcome_of_setup result ≡ scaling_of device temperature }
+pub fn setup_model(device: Mosfet1, temperature: Kelvin) -> Result<Mosfet1, Refusal>
+    ensures { outcome result ≡ scaling_of device temperature }
 {
     if device::outside_temperatures(temperature) {
-        return SetupAnswer::Refused(6);
+        return Err(Refusal::Temperature);
     }
-    let card = device.card;
-    let scaled = scaled_at(card, temperature);
+    let scaled = scaled_at(device.card, temperature);
     if potentials_low(scaled) {
-        return SetupAnswer::Refused(7);
+        return Err(Refusal::Potential);
     }
-    let stage = device.stage;
-    if device::before(stage, Stage::Geometry) {
-        return SetupAnswer::Refused(10);
+    if device::before(device.stage, Stage::Geometry) {
+        return Err(Refusal::Stage);
     }
-    SetupAnswer::Done(scaled_to(device, scaled))
+    Ok(scaled_to(device, scaled))
 }
 
 // A series resistance above 0 has a node of its own.
 fn extra(resistance: f64) -> usize
     ensures { result ≡ extra resistance }
 {
-    if resistance > 0.0 { 1 } else { 0 }
+    usize::from(resistance > 0.0)
 }
 
 // How many nodes beyond the four terminals the device asks for.
 pub fn num_extra_nodes(device: Mosfet1) -> usize
     ensures { result ≡ extra_nodes device.geometry }
 {
-    let rd = device.geometry.rd;
-    let rs = device.geometry.rs;
-    extra(rd) + extra(rs)
+    extra(device.geometry.rd) + extra(device.geometry.rs)
 }
 
 // The node behind the drain's resistance, the first of the extra ones.
@@ -163,77 +124,24 @@ fn terminals(
     requires { first + extra rd < 2 ^ 64 }
     ensures { result ≡ terminals_of rd rs drain gate source bulk first }
 {
-    let inner_d = inner_drain(rd, drain, first);
-    let inner_s = inner_source(rd, rs, source, first);
     Terminals {
         drain_ext: drain,
         source_ext: source,
-        drain: inner_d,
+        drain: inner_drain(rd, drain, first),
         gate,
-        source: inner_s,
+        source: inner_source(rd, rs, source, first),
         bulk,
     }
-}
-
-// Whether a node's number is above 2^32 - 1.
-fn beyond(node: NodeId) -> bool
-    ensures { result ≡ node_beyond node_limit node }
-{
-    match node {
-        NodeId::Ground => false,
-        NodeId::At(n) => 4294967296 <= n,
-    }
-}
-
-fn any_beyond(t: Terminals) -> bool
-    ensures { result ≡ any_node_beyond node_limit t }
-{
-    let drain_ext = t.drain_ext;
-    if beyond(drain_ext) {
-        return true;
-    }
-    let source_ext = t.source_ext;
-    if beyond(source_ext) {
-        return true;
-    }
-    let drain = t.drain;
-    if beyond(drain) {
-        return true;
-    }
-    let gate = t.gate;
-    if beyond(gate) {
-        return true;
-    }
-    let source = t.source;
-    if beyond(source) {
-        return true;
-    }
-    let bulk = t.bulk;
-    beyond(bulk)
 }
 
 // The device with its terminals, ready for evaluation.
 fn bound(device: Mosfet1, terminals: Terminals) -> Mosfet1
     ensures { result ≡ bound_to device terminals }
 {
-    let card = device.card;
-    let geometry = device.geometry;
-    let scaled = device.scaled;
-    let point = device.point;
-    let charges = device.charges;
-    let histories = device.histories;
-    let disc = device.disc;
-    let stage = Stage::Bound;
     Mosfet1 {
-        card,
-        geometry,
-        scaled,
         terminals,
-        point,
-        charges,
-        histories,
-        disc,
-        stage,
+        stage: Stage::Bound,
+        ..device
     }
 }
 
@@ -241,10 +149,7 @@ fn bound(device: Mosfet1, terminals: Terminals) -> Mosfet1
 fn outside_binding(stage: Stage) -> bool
     ensures { result ≡ outside_binding stage }
 {
-    if device::before(stage, Stage::Scaled) {
-        return true;
-    }
-    device::before(Stage::Bound, stage)
+    device::before(stage, Stage::Scaled) || device::before(Stage::Bound, stage)
 }
 
 // Binds the drain, gate, source and bulk, and the extra nodes from `first` on.
@@ -255,22 +160,21 @@ pub fn setup_instance(
     source: NodeId,
     bulk: NodeId,
     first: usize,
-) -> SetupAnswer
-    ensures { outcome_of_setup result ≡ binding_of device drain gate source bulk first }
+) -> Result<Mosfet1, Refusal>
+    ensures { outcome result ≡ binding_of device drain gate source bulk first }
 {
     let rd = device.geometry.rd;
     let rs = device.geometry.rs;
     // The internal drain first: with its number small the next one is a number too.
-    if beyond(inner_drain(rd, drain, first)) {
-        return SetupAnswer::Refused(8);
+    if inner_drain(rd, drain, first).is_beyond(NODE_LIMIT) {
+        return Err(Refusal::Node);
     }
     let terminals = terminals(rd, rs, drain, gate, source, bulk, first);
-    if any_beyond(terminals) {
-        return SetupAnswer::Refused(8);
+    if terminals.any_beyond(NODE_LIMIT) {
+        return Err(Refusal::Node);
     }
-    let stage = device.stage;
-    if outside_binding(stage) {
-        return SetupAnswer::Refused(10);
+    if outside_binding(device.stage) {
+        return Err(Refusal::Stage);
     }
-    SetupAnswer::Done(bound(device, terminals))
+    Ok(bound(device, terminals))
 }

@@ -2,74 +2,77 @@
 #![tactic(auto)]
 
 ghost use Rattle.std.specs.Prelude.{◌≡◌};
-ghost use Rattle.model.specs.SmallSignal.{density_of, outcome_of_noise, noise_of, reactance_of, five_of, outcome_of_reactances, reactances_of};
+ghost use Rattle.device.specs.Refusals.{outcome};
+ghost use Rattle.model.specs.SmallSignal.{density_of, noise_of, reactance_of, five_of, reactances_of};
 
-use device::{Charges, Mosfet1, NodeId, Terminals};
-use model::small_signal::{FiveReactances, Noise, Reactance, Reactances};
+use device::{Charges, Mosfet1, NodeId, Refusal, Terminals};
+use model::small_signal::{Capacitor, NoiseSource, Reactances};
 use temperature::Kelvin;
 
 // Thermal and flicker noise are not correlated, so the densities add up.
+#[tactic(auto, unfolding(model::specs::SmallSignal::density_of))]
 fn density(d: Mosfet1, temperature: Kelvin, freq: f64) -> f64
     ensures { result ≡ density_of d temperature freq }
 {
-    let card = d.card;
-    let geometry = d.geometry;
-    let point = d.point;
-    let thermal = noise::thermal_noise(point.gm, temperature);
-    let norm = geometry.w * geometry.l * card.cox;
-    let flicker = noise::flicker_noise(card.kf, card.af, point.ids_eval, freq, norm);
-    thermal + flicker
+    let thermal = noise::thermal_noise(d.point.gm, temperature);
+    let norm = d.geometry.w * d.geometry.l * d.card.cox;
+    thermal + noise::flicker_noise(d.card.kf, d.card.af, d.point.ids_eval, freq, norm)
 }
 
-pub fn noise_sources(d: Mosfet1, temperature: Kelvin, freq: f64) -> Noise
-    ensures { outcome_of_noise result ≡ noise_of d temperature freq }
+// One source from drain to source, or none. A density that is NaN is one.
+pub fn noise_sources(
+    d: Mosfet1,
+    temperature: Kelvin,
+    freq: f64,
+) -> Result<Option<NoiseSource>, Refusal>
+    ensures { outcome result ≡ noise_of d temperature freq }
 {
-    let stage = d.stage;
-    let row = rows::noise_row(stage, temperature);
-    if row != 0 {
-        return Noise::Refused(row);
+    rows::noise_row(d.stage, temperature)?;
+    let density = density(d, temperature, freq);
+    if density <= 0.0 {
+        return Ok(None);
     }
-    let s = density(d, temperature, freq);
-    if s <= 0.0 {
-        return Noise::Quiet;
-    }
-    let t = d.terminals;
-    let drain = t.drain;
-    let source = t.source;
-    Noise::Source(drain, source, s)
+    Ok(Some(NoiseSource {
+        pos: d.terminals.drain,
+        neg: d.terminals.source,
+        density,
+    }))
 }
 
-fn reactance_of(pos: NodeId, neg: NodeId, c: f64) -> Reactance
-    ensures { result ≡ reactance_of pos neg c }
+#[tactic(auto, unfolding(model::specs::SmallSignal::reactance_of))]
+fn reactance_of(pos: NodeId, neg: NodeId, capacitance: f64) -> Option<Capacitor>
+    ensures { result ≡ reactance_of pos neg capacitance }
 {
-    if c != 0.0 {
-        return Reactance::Capacitor(pos, neg, c);
+    if capacitance != 0.0 {
+        Some(Capacitor {
+            pos,
+            neg,
+            capacitance,
+        })
+    } else {
+        None
     }
-    Reactance::Absent
 }
 
-fn reactances_at(t: Terminals, q: Charges) -> FiveReactances
+#[tactic(auto, unfolding(model::specs::SmallSignal::five_of))]
+fn reactances_at(t: Terminals, q: Charges) -> Reactances
     ensures { result ≡ five_of t q }
 {
-    let drain = t.drain;
-    let gate = t.gate;
-    let source = t.source;
-    let bulk = t.bulk;
-    let gs = reactance_of(gate, source, q.cgs_eval);
-    let gd = reactance_of(gate, drain, q.cgd_eval);
-    let gb = reactance_of(gate, bulk, q.cgb_eval);
-    let bs = reactance_of(bulk, source, q.cbs_eval);
-    let bd = reactance_of(bulk, drain, q.cbd_eval);
-    FiveReactances { gs, gd, gb, bs, bd }
+    Reactances {
+        gs: reactance_of(t.gate, t.source, q.cgs_eval),
+        gd: reactance_of(t.gate, t.drain, q.cgd_eval),
+        gb: reactance_of(t.gate, t.bulk, q.cgb_eval),
+        bs: reactance_of(t.bulk, t.source, q.cbs_eval),
+        bd: reactance_of(t.bulk, t.drain, q.cbd_eval),
+    }
 }
 
-pub fn small_signal_reactances(d: Mosfet1) -> Reactances
-    ensures { outcome_of_reactances result ≡ reactances_of d }
+#[tactic(auto, unfolding(model::specs::SmallSignal::reactances_of))]
+pub fn small_signal_reactances(d: Mosfet1) -> Result<Reactances, Refusal>
+    ensures { outcome result ≡ reactances_of d }
 {
-    let stage = d.stage;
-    if rows::unevaluated(stage) {
-        return Reactances::Refused(10);
+    if d.stage.is_unevaluated() {
+        return Err(Refusal::Stage);
     }
-    let five = reactances_at(d.terminals, d.charges);
-    Reactances::Found(five)
+    Ok(reactances_at(d.terminals, d.charges))
 }

@@ -1,4 +1,3 @@
-pub mod TwoWords
 pub mod WholeRoot
 pub mod Patterns
 pub mod RootDigits

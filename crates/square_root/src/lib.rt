@@ -12,15 +12,7 @@ use wide::{mulhi, mullo};
 fn product_less(a: u64, b: u64, hi: u64, lo: u64) -> bool
     ensures { result ≡ nat_lt (a * b) (hi * 2 ^ 64 + lo) }
 {
-    let h = mulhi(a, b);
-    let l = mullo(a, b);
-    if h < hi {
-        return true;
-    }
-    if hi < h {
-        return false;
-    }
-    l < lo
+    (mulhi(a, b), mullo(a, b)) < (hi, lo)
 }
 
 // A line near 1 / √m: for j below 128 from m = 2 + j / 64 up to 2 + (j + 1) / 64, for k = j - 128 from 1 + k / 128 up to 1 + (k + 1) / 128. The upper half holds its value at 0, without the whole part, the lower half how much it falls from m to m + 1, both in units of 2^-32. tools/root_table.py prints it. A match, of which the compiler makes read-only data.
@@ -301,10 +293,8 @@ fn searched(s: u64, hi: u64, lo: u64) -> u64
     requires { (0 < hi) × (hi < 2 ^ 42) }
     ensures { (result ≡ nearest_root (hi * 2 ^ 64 + lo)) × (result ≤ 2 ^ 53) }
 {
-    let mut q = s;
-    if q > 0x20_0000_0000_0000 {
-        q = 0x20_0000_0000_0000;
-    }
+    let mut q = s.min(0x20_0000_0000_0000);
+    // The turns search up and down from a guess: there is no list and no range to go over.
     while product_less(q, q + 1, hi, lo) {
         q += 1;
     }
@@ -320,15 +310,10 @@ fn nearest_root(s: u64, hi: u64, lo: u64) -> u64
     ensures { (result ≡ nearest_root (hi * 2 ^ 64 + lo)) × (result ≤ 2 ^ 53) }
 {
     let l = mullo(s, s);
-    if mulhi(s, s) == hi {
-        if l <= lo {
-            let rest = lo - l;
-            if rest <= 3 * s {
-                if rest <= s {
-                    return s;
-                }
-                return s + 1;
-            }
+    if mulhi(s, s) == hi && l <= lo {
+        let rest = lo - l;
+        if rest <= 3 * s {
+            return if rest <= s { s } else { s + 1 };
         }
     }
     searched(s, hi, lo)
@@ -353,7 +338,7 @@ fn positive_root(bits: u64) -> u64
     let mut e = ((bits >> 52) + 1021) / 2;
     let mut j = bits >> 45;
     if bits < 0x10_0000_0000_0000 {
-        let z = u64::leading_zeros(bits) as u64;
+        let z = bits.leading_zeros() as u64;
         let f = 1085 - z;
         m = bits << (z - 1 + f % 2);
         e = (f - 52) / 2;
@@ -367,13 +352,13 @@ pub fn sqrt(x: f64) -> f64
     ensures { result ≡ sqrt_of x }
 {
     if x > 0.0 {
-        if x < 1.0 / 0.0 {
-            return f64::from_bits(positive_root(f64::to_bits(x)));
+        if x < f64::INFINITY {
+            return f64::from_bits(positive_root(x.to_bits()));
         }
         return x;
     }
     if x == 0.0 {
         return x;
     }
-    0.0 / 0.0
+    f64::NAN
 }

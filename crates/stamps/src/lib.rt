@@ -5,7 +5,7 @@
 ghost use Rattle.std.specs.Prelude.{◌≡◌};
 ghost use Rattle.stamps.specs.Stamps.{jac_pairs_of, series_of, jac_values_of, residual_of, branch_of, has_junction_of, junction_branch_of, charge_branches_of};
 
-use device::{ChargeHistory, Discretisation, Mosfet1, NodeId, Terminals};
+use device::{ChargeHistory, Discretisation, Mosfet1, NodeId, OperatingPoint, Terminals};
 
 // A matrix position by the nodes of its row and column.
 #[derive(Clone, Copy)]
@@ -42,15 +42,18 @@ pub struct ChargeBranches {
     pub bd: ChargeBranch,
 }
 
+// In the order of the Rust's `jac_pairs`, which the lists of values and cells follow, so they stay written out.
 pub fn jac_pairs(t: Terminals) -> [Position; 24]
     ensures { result ≡ jac_pairs_of t }
 {
-    let d = t.drain;
-    let g = t.gate;
-    let s = t.source;
-    let bk = t.bulk;
-    let d_ext = t.drain_ext;
-    let s_ext = t.source_ext;
+    let Terminals {
+        drain_ext: d_ext,
+        source_ext: s_ext,
+        drain: d,
+        gate: g,
+        source: s,
+        bulk: bk,
+    } = t;
     [
         Position { row: d, col: g },
         Position { row: d, col: d },
@@ -86,28 +89,27 @@ pub fn jac_pairs(t: Terminals) -> [Position; 24]
 }
 
 // A series resistance's conductance, 0 where there is none.
+#[tactic(auto, unfolding(crate::specs::Stamps::series_of))]
 pub fn series(r: f64) -> f64
     ensures { result ≡ series_of r }
 {
-    if r > 0.0 {
-        return 1.0 / r;
-    }
-    0.0
+    if r > 0.0 { 1.0 / r } else { 0.0 }
 }
 
 pub fn jac_values(d: Mosfet1) -> [f64; 24]
     ensures { result ≡ jac_values_of d }
 {
-    let geometry = d.geometry;
-    let point = d.point;
-    let gm = point.gm;
-    let gds = point.gds;
-    let gmbs = point.gmbs;
+    let OperatingPoint {
+        gm,
+        gds,
+        gmbs,
+        gbs,
+        gbd,
+        ..
+    } = d.point;
     let gms = gm + gds + gmbs;
-    let g_d = series(geometry.rd);
-    let g_s = series(geometry.rs);
-    let gbs = point.gbs;
-    let gbd = point.gbd;
+    let g_d = series(d.geometry.rd);
+    let g_s = series(d.geometry.rs);
     [
         gm, gds, -gms, gmbs, -gm, -gds, gms, -gmbs, g_d, -g_d, -g_d, g_d, g_s, -g_s, -g_s, g_s,
         gbs, -gbs, -gbs, gbs, gbd, -gbd, -gbd, gbd,
@@ -117,11 +119,10 @@ pub fn jac_values(d: Mosfet1) -> [f64; 24]
 pub fn residual_values(d: Mosfet1) -> Residual
     ensures { result ≡ residual_of d }
 {
-    let point = d.point;
     Residual {
-        jeq: point.jeq,
-        ibs_eq: point.ibs_eq,
-        ibd_eq: point.ibd_eq,
+        jeq: d.point.jeq,
+        ibs_eq: d.point.ibs_eq,
+        ibd_eq: d.point.ibd_eq,
     }
 }
 
@@ -151,13 +152,11 @@ fn branch(
 }
 
 // A junction with neither a bottom nor a sidewall capacitance has no history current.
+#[tactic(auto, unfolding(crate::specs::Stamps::has_junction_of))]
 fn has_junction(bot: f64, sw: f64) -> bool
     ensures { result ≡ has_junction_of bot sw }
 {
-    if bot != 0.0 {
-        return true;
-    }
-    sw != 0.0
+    bot != 0.0 || sw != 0.0
 }
 
 // The bulk-source or bulk-drain branch: the Jacobian's term at its voltage v is c·v, not its charge.
@@ -180,95 +179,53 @@ fn junction_branch(
 }
 
 // The gate-source branch: it is linear, so the Jacobian's term at its voltage is its charge.
+#[tactic(auto, unfolding(crate::specs::Stamps::charge_branches_of))]
 pub fn gs_branch(d: Mosfet1, alpha: f64) -> ChargeBranch
     ensures { result ≡ (charge_branches_of d alpha).gs }
 {
-    let t = d.terminals;
-    let gate = t.gate;
-    let source = t.source;
-    let disc = d.disc;
-    let c = d.charges.cgs_eval;
-    let q = d.charges.q_gs_eval;
-    let hist = d.histories.gs_hist;
-    branch(gate, source, c, q, q, true, disc, alpha, hist)
+    let (t, h) = (d.terminals, d.histories);
+    let (c, q) = (d.charges.cgs_eval, d.charges.q_gs_eval);
+    branch(t.gate, t.source, c, q, q, true, d.disc, alpha, h.gs_hist)
 }
 
 // The gate-drain branch: it is linear, so the Jacobian's term at its voltage is its charge.
+#[tactic(auto, unfolding(crate::specs::Stamps::charge_branches_of))]
 pub fn gd_branch(d: Mosfet1, alpha: f64) -> ChargeBranch
     ensures { result ≡ (charge_branches_of d alpha).gd }
 {
-    let t = d.terminals;
-    let gate = t.gate;
-    let drain = t.drain;
-    let disc = d.disc;
-    let c = d.charges.cgd_eval;
-    let q = d.charges.q_gd_eval;
-    let hist = d.histories.gd_hist;
-    branch(gate, drain, c, q, q, true, disc, alpha, hist)
+    let (t, h) = (d.terminals, d.histories);
+    let (c, q) = (d.charges.cgd_eval, d.charges.q_gd_eval);
+    branch(t.gate, t.drain, c, q, q, true, d.disc, alpha, h.gd_hist)
 }
 
 // The gate-bulk branch: it is linear, so the Jacobian's term at its voltage is its charge.
+#[tactic(auto, unfolding(crate::specs::Stamps::charge_branches_of))]
 pub fn gb_branch(d: Mosfet1, alpha: f64) -> ChargeBranch
     ensures { result ≡ (charge_branches_of d alpha).gb }
 {
-    let t = d.terminals;
-    let gate = t.gate;
-    let bulk = t.bulk;
-    let disc = d.disc;
-    let c = d.charges.cgb_eval;
-    let q = d.charges.q_gb_eval;
-    let hist = d.histories.gb_hist;
-    branch(gate, bulk, c, q, q, true, disc, alpha, hist)
+    let (t, h) = (d.terminals, d.histories);
+    let (c, q) = (d.charges.cgb_eval, d.charges.q_gb_eval);
+    branch(t.gate, t.bulk, c, q, q, true, d.disc, alpha, h.gb_hist)
 }
 
+#[tactic(auto, unfolding(crate::specs::Stamps::charge_branches_of))]
 pub fn bs_branch(d: Mosfet1, alpha: f64) -> ChargeBranch
     ensures { result ≡ (charge_branches_of d alpha).bs }
 {
-    let t = d.terminals;
-    let bulk = t.bulk;
-    let source = t.source;
-    let disc = d.disc;
-    let q = d.charges;
-    let bot = d.geometry.cbs_bot;
-    let sw = d.geometry.cbs_sw;
-    let hist = d.histories.bs_hist;
-    junction_branch(
-        bulk,
-        source,
-        q.cbs_eval,
-        q.vbs_eval,
-        q.q_bs_eval,
-        bot,
-        sw,
-        disc,
-        alpha,
-        hist,
-    )
+    let (t, q, h) = (d.terminals, d.charges, d.histories);
+    let (bot, sw) = (d.geometry.cbs_bot, d.geometry.cbs_sw);
+    let (c, v, q) = (q.cbs_eval, q.vbs_eval, q.q_bs_eval);
+    junction_branch(t.bulk, t.source, c, v, q, bot, sw, d.disc, alpha, h.bs_hist)
 }
 
+#[tactic(auto, unfolding(crate::specs::Stamps::charge_branches_of))]
 pub fn bd_branch(d: Mosfet1, alpha: f64) -> ChargeBranch
     ensures { result ≡ (charge_branches_of d alpha).bd }
 {
-    let t = d.terminals;
-    let bulk = t.bulk;
-    let drain = t.drain;
-    let disc = d.disc;
-    let q = d.charges;
-    let bot = d.geometry.cbd_bot;
-    let sw = d.geometry.cbd_sw;
-    let hist = d.histories.bd_hist;
-    junction_branch(
-        bulk,
-        drain,
-        q.cbd_eval,
-        q.vbd_eval,
-        q.q_bd_eval,
-        bot,
-        sw,
-        disc,
-        alpha,
-        hist,
-    )
+    let (t, q, h) = (d.terminals, d.charges, d.histories);
+    let (bot, sw) = (d.geometry.cbd_bot, d.geometry.cbd_sw);
+    let (c, v, q) = (q.cbd_eval, q.vbd_eval, q.q_bd_eval);
+    junction_branch(t.bulk, t.drain, c, v, q, bot, sw, d.disc, alpha, h.bd_hist)
 }
 
 pub fn charge_branches(d: Mosfet1, alpha: f64) -> ChargeBranches

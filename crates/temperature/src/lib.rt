@@ -23,7 +23,7 @@ pub struct Celsius(pub f64);
 #[derive(Clone, Copy)]
 pub struct Kelvin(pub f64);
 
-// The one place where degrees Celsius become kelvin.
+// The one place where degrees Celsius become kelvin: docs/DECISIONS.md names it, so no From.
 pub fn to_kelvin(c: Celsius) -> Kelvin
     ensures { result ≡ kelvin_of c }
 {
@@ -45,7 +45,7 @@ pub fn bandgap_ev(t: Kelvin) -> f64
     1.16 - (7.02e-4 * t * t) / (t + 1108.0)
 }
 
-// The factor of a bulk junction's saturation current.
+// The factor of a bulk junction's saturation current. It and the functions below take t and tnom one by one, as docs/PORTED.md names them from the Rust.
 pub fn mos_junction_is_factor(t: Kelvin, tnom: Kelvin) -> f64
     ensures { result ≡ mos_junction_is_factor_of t tnom }
 {

@@ -9,32 +9,29 @@ ghost use Rattle.threshold.specs.Threshold.{body_potential_of, threshold_of, bod
 use float::{abs, max, signum};
 
 // fetlim: the step of vgs above the zero-bias threshold is cut to 1 V and a logarithm of the rest.
+#[tactic(auto, unfolding(crate::specs::Limiter::limited_vgs_of, crate::specs::Limiter::cut_step_of))]
 pub fn limit_vgs(vto: f64, vgs: f64, prev: f64) -> f64
     ensures { result ≡ limited_vgs_of vto vgs prev }
 {
     let dvg = vgs - prev;
-    if vgs > vto {
-        let step = abs(dvg);
-        if step > 1.0 {
-            let s = signum(dvg);
-            let rest = elementary::ln_1p(step - 1.0);
-            return prev + s * (1.0 + rest);
-        }
+    let step = abs(dvg);
+    if vgs > vto && step > 1.0 {
+        prev + signum(dvg) * (1.0 + elementary::ln_1p(step - 1.0))
+    } else {
+        vgs
     }
-    vgs
 }
 
 // A vds that changes its sign is taken as a tenth of the previous one.
+#[tactic(auto, unfolding(crate::specs::Limiter::limited_vds_of))]
 pub fn limit_vds(vds: f64, prev: f64) -> f64
     ensures { result ≡ limited_vds_of vds prev }
 {
-    let size = abs(prev);
-    if size > 1e-6 {
-        if prev * vds < 0.0 {
-            return 0.1 * prev;
-        }
+    if abs(prev) > 1e-6 && prev * vds < 0.0 {
+        0.1 * prev
+    } else {
+        vds
     }
-    vds
 }
 
 pub fn body_potential(phi_t: f64, vbs: f64) -> f64
@@ -48,14 +45,11 @@ fn root_beside(x: f64, y: f64, root: f64) -> f64
     requires { root ≡ sqrt_of y }
     ensures { result ≡ sqrt_of x }
 {
-    if x > 0.0 {
-        if y > 0.0 {
-            if f64::to_bits(x) == f64::to_bits(y) {
-                return root;
-            }
-        }
+    if x > 0.0 && y > 0.0 && f64::to_bits(x) == f64::to_bits(y) {
+        root
+    } else {
+        elementary::sqrt(x)
     }
-    elementary::sqrt(x)
 }
 
 pub fn threshold(vto: f64, gamma: f64, phi_t: f64, phi_m_vbs: f64) -> f64
@@ -66,12 +60,13 @@ pub fn threshold(vto: f64, gamma: f64, phi_t: f64, phi_m_vbs: f64) -> f64
     vto + gamma * (with_bias - without)
 }
 
+#[tactic(auto, unfolding(crate::specs::Threshold::body_slope_of))]
 pub fn body_slope(gamma: f64, phi_m_vbs: f64) -> f64
     ensures { result ≡ body_slope_of gamma phi_m_vbs }
 {
     if gamma > 0.0 {
-        let root = elementary::sqrt(phi_m_vbs);
-        return -gamma / (2.0 * root);
+        -gamma / (2.0 * elementary::sqrt(phi_m_vbs))
+    } else {
+        0.0
     }
-    0.0
 }

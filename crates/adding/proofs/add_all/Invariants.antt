@@ -1,11 +1,7 @@
-use Rattle.std.proofs.Common.{◌≡◌}
-use Prim.Native.Nat.{◌-◌}
+use mathlib.Core.Path.{◌≡◌}
 use lib.ListN.{length, drop}
 use Rattle.adding.specs.Adding.{add_all}
 use Rattle.adding.proofs.add_all.Given as goal
 
-abbrev pub invariant-loop-k : goal.invariant-loop-k
-invariant-loop-k l = (length l.xs ≡ length l.initial.xs) × (add_all l.initial.xs l.places l.values ≡ add_all l.xs (drop l.k l.places) (drop l.k l.values))
-
-abbrev pub decreases-loop-k : goal.decreases-loop-k
-decreases-loop-k l = length l.places - l.k
+abbrev pub invariant-loop-place : goal.invariant-loop-place
+invariant-loop-place l = add_all l.initial.xs l.places l.values ≡ add_all l.xs (drop (length l.yielded) l.places) (drop (length l.yielded) l.values)

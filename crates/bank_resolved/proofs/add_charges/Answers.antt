@@ -13,7 +13,7 @@ use Rattle.bank_resolved.proofs.add_charges.Goals as goal
 
 pub add_charges-requires : goal.add_charges-requires
 add_charges-requires c =
-    let d = c.device_from-d.ensures ∙ ap device_from c.record_for_charges-r.ensures in (
+    let d = c.device_from-d.ensures ∙ ap device_from c.record_of.ensures in (
       c.nodes_of-n.ensures ∙ nodes_known (record_of c.args.w.now) c.args.transient c.args.alpha c.args.cells.now _ _ (omega arith) c.requires ∙ ap (λ (d : Mosfet1). nodes_of d.terminals) (sym d),
       rw d (branches_known (record_of c.args.w.now) c.args.transient c.args.alpha c.args.cells.now _ _ (omega arith) c.if-transient-eq1.true c.requires),
     )
@@ -22,7 +22,7 @@ pub returns-then-transient-eq1 : goal.returns-then-transient-eq1
 unfolding charge_sources charge_values charged_side charged_matrix
 returns-then-transient-eq1 c =
     let one = eq-eqb _ 1 c.if-transient-eq1.true in
-    let d = c.device_from-d.ensures ∙ ap device_from c.record_for_charges-r.ensures in (
+    let d = c.device_from-d.ensures ∙ ap device_from c.record_of.ensures in (
       c.add_charges.ensures.1 ∙ rw (one, d),
       c.add_charges.ensures.0 ∙ rw (one, d),
     )

@@ -12,7 +12,7 @@ use Rattle.bank_resolved.proofs.add_static.Goals as goal
 
 pub add_static-requires : goal.add_static-requires
 add_static-requires c =
-    let d = c.device_from-d.ensures ∙ ap device_from c.record_for_static-r.ensures in (
+    let d = c.device_from-d.ensures ∙ ap device_from c.record_of.ensures in (
       c.nodes_of-n.ensures ∙ nodes_known (record_of c.args.w.now) c.args.transient c.args.alpha c.args.cells.now _ _ (omega arith) c.requires ∙ ap (λ (d : Mosfet1). nodes_of d.terminals) (sym d),
       rw d (pairs_known (record_of c.args.w.now) c.args.transient c.args.alpha c.args.cells.now _ _ (omega arith) c.requires),
     )
@@ -20,7 +20,7 @@ add_static-requires c =
 pub returns : goal.returns
 unfolding static_sources static_values static_side static_matrix
 returns c =
-    let d = c.device_from-d.ensures ∙ ap device_from c.record_for_static-r.ensures in (
+    let d = c.device_from-d.ensures ∙ ap device_from c.record_of.ensures in (
       c.add_static.ensures.1 ∙ rw d,
       c.add_static.ensures.0 ∙ rw d,
     )

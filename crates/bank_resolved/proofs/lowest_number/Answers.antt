@@ -1,38 +1,30 @@
-use Prim.Native.Nat.{ℕ, suc, ◌-◌}
-use native.Mathlib.Omega.{arith}
+use mathlib.Core.List.{[]}
 use lib.Dec.{ltb}
-use lib.ListN.{length, drop}
-use Rattle.bank_resolved.specs.Steps.{number_from, lowest_number}
-use Rattle.bank_resolved.proofs.Numbers.{fewest, one_before}
+use lib.ListN.{length}
+use Rattle.std.proofs.Common.{refl, sym, ap, ◌∙◌}
+use Rattle.std.proofs.lemmas.List.{length_push}
+use Rattle.std.proofs.lemmas.Slice.Zip.{zip_turn, zip_end}
+use Rattle.bridge_devices.specs.Steps.{lower}
+use Rattle.bank_resolved.specs.Steps.{lowest_number}
+use Rattle.bank_resolved.proofs.Numbers.{lower_0, none_left, one_more}
 use Rattle.bank_resolved.proofs.lowest_number.Goals as goal
--- `bank_resolved::lowest_number`: from the last device with cells to the first.
-use mathlib.Core.Path.{◌≡◌, refl, ap, ◌∙◌}
 
-pub loop-i-init : goal.loop-i-init
-loop-i-init c =
-    let f = fewest c.args.transient c.args.alpha c.args.rows c.args.values (ltb (length c.args.cells.now) (length c.args.bank.now)) c.args.bank.now c.args.cells.now c.fewer-i.result c.fewer-i.ensures in
-    (f.among_devices, (f.among_lists, (refl, c.lacking_row-number.ensures ∙ f.none)))
+-- `bank_resolved::lowest_number`: the devices that have a list of cells, then whether one lacks it.
 
-pub loop-i-preserved : goal.loop-i-preserved
-loop-i-preserved c =
-    let lacking = ltb (length c.args.cells.now) (length c.args.bank.now) in
-    let same : c.loop-i.i ≡ suc (c.loop-i.i - 1) = omega arith in (
-      omega (arith, c.loop-i.invariant.0),
-      (
-        omega (arith, c.loop-i.invariant.1.0),
-        (
-          c.loop-i.invariant.1.1.0,
-          one_before c.args.transient c.args.alpha c.args.rows c.args.values lacking c.args.bank.now c.args.cells.now
-              (c.loop-i.i - 1) c.number_of-own.result c.loop-i.number _ (omega (arith, c.loop-i.invariant.0)) (omega (arith, c.loop-i.invariant.1.0)) c.number_of-own.ensures
-              (c.loop-i.invariant.1.1.1 ∙ ap (λ (n : ℕ). number_from c.args.transient c.args.alpha c.args.rows c.args.values lacking (drop n c.args.bank.now) (drop n c.args.cells.now)) same)
-              c.lower-number.ensures,
-        ),
-      ),
-    )
+pub loop-w-init : goal.loop-w-init
+loop-w-init c = lower_0 _
+
+pub loop-w-preserved : goal.loop-w-preserved
+loop-w-preserved c =
+    let turn = zip_turn c.args.bank.now c.args.cells.now c.loop-w.yielded c.into_iter-w-iterator.result c.loop-w.w-iterator c.next.new.self c.next.result (cc) (cc) c.loop-w.yielded_by (c.in-Some.w, c.in-Some.list) c.in-Some.is c.next.ensures.steps in
+    rw (length_push c.loop-w.yielded (c.in-Some.w, c.in-Some.list))
+    (one_more c.args.transient c.args.alpha c.args.rows c.args.values (ltb (length c.args.cells.now) (length c.args.bank.now)) c.args.bank.now c.args.cells.now (length c.loop-w.yielded)
+    c.number_of-own.result c.loop-w.number _ _ turn.0 turn.1 (c.number_of-own.ensures ∙ rw (turn.2 [], turn.3 []) refl) c.lower-number.ensures c.loop-w.invariant)
 
 pub returns : goal.returns
 unfolding lowest_number
 returns c =
-    let none : c.loop-i.i ≡ 0 = omega arith in
-    c.loop-i.invariant.1.1.1
-    ∙ ap (λ (n : ℕ). number_from c.args.transient c.args.alpha c.args.rows c.args.values (ltb (length c.args.cells.now) (length c.args.bank.now)) (drop n c.args.bank.now) (drop n c.args.cells.now)) none
+    let end = zip_end c.args.bank.now c.args.cells.now c.loop-w.yielded c.into_iter-w-iterator.result c.loop-w.w-iterator c.next.new.self c.next.result (cc) (cc) c.loop-w.yielded_by c.in-None.is c.next.ensures.steps in
+    c.lower.ensures
+    ∙ ap (lower c.loop-w.number) (c.lacking_row.ensures ∙ sym (none_left c.args.transient c.args.alpha c.args.rows c.args.values (ltb (length c.args.cells.now) (length c.args.bank.now)) c.args.bank.now c.args.cells.now (length c.loop-w.yielded) end))
+    ∙ c.loop-w.invariant

@@ -16,15 +16,15 @@ returns-then-sidewall c =
 pub returns-then-v-fc : goal.returns-then-v-fc
 unfolding cj_depl_mOf cj_below_of q_depl_mOf q_below_of
 returns-then-v-fc c =
-    let r = c.fractional_powers-x.ensures in
+    let r = c.fractional_powers.ensures in
     let b = c.if-bottom.false in
     let s = c.if-sidewall.false in
-    (rw (r.0, r.2, b, s, c.if-v-fc.true), rw (c.charge-q_sw.ensures, c.charge-q_bot.ensures, r.1, r.3, b, s, c.if-v-fc.true))
+    (rw (r, b, s, c.if-v-fc.true), rw (c.charge-q_sw.ensures, c.charge-q_bot.ensures, r, b, s, c.if-v-fc.true))
 
 pub returns : goal.returns
 unfolding cj_depl_mOf cj_above_of q_depl_mOf q_below_of q_above_of
 returns c =
-    let r = c.four_powers-x.ensures in
+    let r = c.powers.ensures in
     let b = c.if-bottom.false in
     let s = c.if-sidewall.false in
-    (rw (c.depl_above-s.ensures.0, c.depl_above-b.ensures.0, r.1, r.3, b, s, c.if-v-fc.false), rw (c.depl_above-s.ensures.1, c.depl_above-b.ensures.1, r.0, r.1, r.2, r.3, b, s, c.if-v-fc.false))
+    (rw (c.depl_above-s.ensures.0, c.depl_above-b.ensures.0, r, b, s, c.if-v-fc.false), rw (c.depl_above-s.ensures.1, c.depl_above-b.ensures.1, r, b, s, c.if-v-fc.false))

@@ -17,8 +17,8 @@ returns-then-sidewall-2 c = rw (c.q_part-then-sidewall-2.ensures, c.if-sidewall-
 pub returns-then-v-fc : goal.returns-then-v-fc
 unfolding q_depl_of q_depl_mOf q_below_of
 returns-then-v-fc c =
-    let r = c.two_powers-x.ensures in
-    rw (c.charge-then-v-fc.ensures, c.charge.ensures, r.0, r.1, c.if-bottom.false, c.if-sidewall-2.false, c.if-v-fc.true)
+    let r = c.powers.ensures in
+    rw (c.charge-then-v-fc.ensures, c.charge.ensures, r, c.if-bottom.false, c.if-sidewall-2.false, c.if-v-fc.true)
 
 pub returns : goal.returns
 unfolding q_depl_of

@@ -21,7 +21,7 @@ returns c = (
     subst
         (λ (P : Pattern). LaidOut P c.args.columns.now c.args.offsets.now c.args.lengths.now
         c.write_list.new.columns c.write_list.new.offsets c.write_list.new.lengths)
-        (same_pattern c.args.t (take c.cells-list.result.count c.cells-list.result.numbers) c.row_count-rows.result
+        (same_pattern c.args.t.terminals (take c.cells-list.result.count c.cells-list.result.numbers) c.row_count-rows.result
         (first_are c.cells-list.ensures) c.row_count-rows.ensures)
         c.write_list.ensures,
   ),

@@ -6,22 +6,10 @@ use Rattle.cell_pattern.proofs.row_end.Goals as goal
 pub loop-i-init : goal.loop-i-init
 loop-i-init c = omega (arith, c.requires.1, row_more c.args.row c.args.cells.now)
 
-pub offset_bounds-cells-i : goal.offset_bounds-cells-i
-offset_bounds-cells-i c = omega arith
-
-pub bounds-cells-i : goal.bounds-cells-i
-bounds-cells-i c = omega arith
-
 pub returns-then-row-row_of : goal.returns-then-row-row_of
 returns-then-row-row_of c =
     let p = past (suc c.args.row) c.args.cells.now c.requires.0 c.loop-i.i (omega (arith, c.row_of.ensures)) in
     omega arith
-
-pub overflow_add-i : goal.overflow_add-i
-overflow_add-i c = omega arith
-
-pub loop-i-smaller : goal.loop-i-smaller
-loop-i-smaller c = omega arith
 
 pub loop-i-preserved : goal.loop-i-preserved
 loop-i-preserved c =

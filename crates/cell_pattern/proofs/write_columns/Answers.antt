@@ -8,24 +8,6 @@ use Rattle.cell_pattern.proofs.write_columns.Goals as goal
 pub loop-i-init : goal.loop-i-init
 loop-i-init c = (omega arith, (c.requires, (refl, refl)))
 
-pub offset_bounds-cells-i : goal.offset_bounds-cells-i
-offset_bounds-cells-i c = omega arith
-
-pub bounds-cells-i : goal.bounds-cells-i
-bounds-cells-i c = omega arith
-
-pub offset_bounds-columns-i : goal.offset_bounds-columns-i
-offset_bounds-columns-i c = omega arith
-
-pub bounds-columns-i : goal.bounds-columns-i
-bounds-columns-i c = omega arith
-
-pub overflow_add-i : goal.overflow_add-i
-overflow_add-i c = omega arith
-
-pub loop-i-smaller : goal.loop-i-smaller
-loop-i-smaller c = omega arith
-
 pub loop-i-preserved : goal.loop-i-preserved
 loop-i-preserved c =
     let cells = c.args.cells.now in

@@ -30,12 +30,6 @@ offset_bounds-lengths-row c = omega (arith, c.requires.1.1)
 pub bounds-lengths-row : goal.bounds-lengths-row
 bounds-lengths-row c = omega (arith, c.loop-row.invariant.1.1.1.same, c.requires.1.1)
 
-pub overflow_add-row : goal.overflow_add-row
-overflow_add-row c = omega (arith, c.requires.1.0)
-
-pub loop-row-smaller : goal.loop-row-smaller
-loop-row-smaller c = omega arith
-
 pub loop-row-preserved : goal.loop-row-preserved
 loop-row-preserved c =
     let cells = c.args.cells.now in

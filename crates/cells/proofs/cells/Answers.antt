@@ -9,5 +9,5 @@ pub returns : goal.returns
 unfolding cells_of
 returns c =
     subst (λ (xs : List ℕ). Listed xs c.insert_cells.result.numbers c.insert_cells.result.count)
-    (rw (c.columns-column.ensures, c.rows-row.ensures) (by_terminals c.args.t c.requires))
+    (rw (c.columns.ensures, c.rows.ensures) (by_terminals c.args.t.terminals c.args.t.below))
     c.insert_cells.ensures

@@ -1,5 +1,5 @@
 use mathlib.Core.Path.{◌≡◌}
-use Prim.Native.Nat.{◌≤◌, ◌<◌, ◌-◌}
+use Prim.Native.Nat.{◌≤◌, ◌<◌}
 use lib.ListN.{length, take, drop}
 use Rattle.cells.specs.Steps.{carry_of}
 use Rattle.cells.proofs.Insertion.{state}
@@ -8,6 +8,3 @@ use Rattle.cells.proofs.insert.Given as goal
 abbrev pub invariant-loop-i : goal.invariant-loop-i
 invariant-loop-i l =
     (l.i ≤ l.count) × ((l.count < 44) × ((length l.numbers ≡ 44) × ((drop l.count l.numbers ≡ drop l.count l.initial.numbers) × (state l.numbers l.count l.carried l.i ≡ carry_of l.number (take l.count l.initial.numbers)))))
-
-abbrev pub decreases-loop-i : goal.decreases-loop-i
-decreases-loop-i l = l.count - l.i

@@ -9,15 +9,6 @@ use Rattle.cells.proofs.insert_cells.Goals as goal
 pub loop-i-init : goal.loop-i-init
 loop-i-init c = (omega arith, (search rules, (omega arith, (refl, refl))))
 
-pub insert_cell-list-requires : goal.insert_cell-list-requires
-insert_cell-list-requires c = omega arith
-
-pub overflow_add-i : goal.overflow_add-i
-overflow_add-i c = omega arith
-
-pub loop-i-smaller : goal.loop-i-smaller
-loop-i-smaller c = omega arith
-
 pub loop-i-preserved : goal.loop-i-preserved
 loop-i-preserved c =
     let h : length c.args.rows ≡ 44 = search rules in

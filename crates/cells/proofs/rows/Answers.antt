@@ -6,4 +6,4 @@ use Rattle.cells.proofs.rows.Goals as goal
 
 pub returns : goal.returns
 unfolding positions_of row_indices nodes_of jac_pairs_of
-returns c = rw c.indices-n.ensures
+returns c = rw c.indices-dx.ensures

@@ -2,12 +2,6 @@ use Rattle.capacitance.specs.Depletion.{cj_depl_of, q_depl_of}
 use Rattle.charges.specs.Charges.{charges_of}
 use Rattle.charges.proofs.charges_at.Goals as goal
 
-pub cj_and_q_depl-bs-requires : goal.cj_and_q_depl-bs-requires
-cj_and_q_depl-bs-requires c = tt
-
-pub cj_and_q_depl-bd-requires : goal.cj_and_q_depl-bd-requires
-cj_and_q_depl-bd-requires c = tt
-
 pub returns : goal.returns
 unfolding charges_of cj_depl_of q_depl_of
 returns c =

@@ -3,6 +3,9 @@ use mathlib.Core.Bool.{true, false≢true}
 use mathlib.Core.List.{List}
 use Prim.Native.Nat.{ℕ, ◌≤◌}
 use native.Mathlib.Omega.{arith}
+use Rattle.std.proofs.lemmas.Result.{err_from_is_err_and}
+use Rattle.device.specs.Refusals.{number_of}
+use Rattle.loading.proofs.Rows.{never_0}
 use lib.ListN.{length}
 use lib.Ieee.{Float}
 use Rattle.stamps.specs.Stamps.{charge_branches_of}
@@ -20,24 +23,27 @@ use Rattle.charges_resolved.proofs.load_resolved.Goals as goal
 -- `charges_resolved::load_resolved`: the rows, then the parts.
 use mathlib.Core.Path.{◌≡◌, sym, ap, ◌∙◌, subst}
 
-pub resolved_row-row-requires : goal.resolved_row-row-requires
-resolved_row-row-requires c = (c.indices-n.ensures, λ e. absurd (false≢true e))
+pub resolved_row-requires : goal.resolved_row-requires
+resolved_row-requires c = (c.indices-n.ensures, λ e. absurd (false≢true e))
 
-pub returns-then-row-ne0 : goal.returns-then-row-ne0
-returns-then-row-ne0 c =
-    refused_row c.args.d c.args.kind c.args.cells.now c.args.rhs.now c.args.values.now c.resolved_row-row.result c.resolved_row-row.ensures c.if-row-ne0.true
+pub returns-in_err-resolved_row : goal.returns-in_err-resolved_row
+returns-in_err-resolved_row c =
+    let p = err_from_is_err_and c.from_residual.result c.from_residual.ensures.1 in
+    rw (p.1, p.2)
+    (refused_row c.args.d c.args.kind c.args.cells.now c.args.rhs.now c.args.values.now (number_of c.in_err-resolved_row.field-0.0)
+    c.in_err-resolved_row.ensures (never_0 c.in_err-resolved_row.field-0.0))
 
 pub add_static-requires : goal.add_static-requires
 add_static-requires c =
     let room : length c.args.rhs.now ≤ skipped_number = omega arith in
-    (c.indices-n.ensures, pairs_held c.args.d c.args.kind c.args.cells.now _ _ room (sym c.resolved_row-row.ensures ∙ c.if-row-ne0.false))
+    (c.indices-n.ensures, pairs_held c.args.d c.args.kind c.args.cells.now _ _ room (sym c.in_ok-resolved_row.ensures))
 
 pub add_charges-requires : goal.add_charges-requires
 add_charges-requires c =
     let room : length c.args.rhs.now ≤ skipped_number = omega arith in
     let d = c.args.d in
     let w = c.args.cells.now in
-    let zero = sym c.resolved_row-row.ensures ∙ c.if-row-ne0.false in
+    let zero = sym c.in_ok-resolved_row.ensures in
     let same = ap length c.add_static.ensures.0 ∙ length_stored _ _ _ in (
       c.indices-n.ensures,
       subst (λ (n : ℕ). branches_stored n (nodes_of d.terminals) w d.charges ≡ true) (sym same)
@@ -51,7 +57,7 @@ returns-in-DirectCurrent c =
     let w = c.args.cells.now in
     let rhs = c.args.rhs.now in
     let values = c.args.values.now in
-    let zero = sym c.resolved_row-row.ensures ∙ c.if-row-ne0.false in
+    let zero = sym c.in_ok-resolved_row.ensures in
     let back = nodes_back d c.args.kind w rhs values room zero in
     let is = sym c.in-DirectCurrent.is in
     accepted_row d c.args.kind w rhs values zero _ _
@@ -65,7 +71,7 @@ returns-in-Transient c =
     let w = c.args.cells.now in
     let rhs = c.args.rhs.now in
     let values = c.args.values.now in
-    let zero = sym c.resolved_row-row.ensures ∙ c.if-row-ne0.false in
+    let zero = sym c.in_ok-resolved_row.ensures in
     let back = nodes_back d c.args.kind w rhs values room zero in
     let alpha = c.in-Transient.alpha in
     let is = sym c.in-Transient.is in

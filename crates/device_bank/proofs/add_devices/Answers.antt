@@ -1,33 +1,30 @@
-use Prim.Native.Nat.{◌-◌}
 use native.Mathlib.Omega.{arith}
 use lib.ListN.{length}
-use Rattle.device_bank.proofs.InTurn.{all_passed, here_accepted, later_passed, one_turn, last_turn}
+use Rattle.std.proofs.Common.{refl, sym, ◌∙◌}
+use Rattle.pattern.specs.Pattern.{lists}
+use Rattle.device_bank.proofs.InTurn.{all_passed, pattern_well, here_accepted, later_passed, one_turn, last_turn}
 use Rattle.device_bank.proofs.add_devices.Goals as goal
--- `device_bank::add_devices`: device by device, each load accepted because no row applies to any.
-use mathlib.Core.Path.{refl, sym, ◌∙◌}
 
-pub loop-i-init : goal.loop-i-init
-loop-i-init c =
-    (refl, (refl, (all_passed c.args.bank.now c.args.kind (record { columns = c.args.columns.now; offsets = c.args.offsets.now; lengths = c.args.lengths.now }) (length c.args.rhs.now) (length c.args.values.now) c.requires, refl)))
+-- `device_bank::add_devices`: device by device, each load accepted because no row applies to any.
+
+pub invariant_of-tested : goal.invariant_of-tested
+invariant_of-tested c = record { fits = pattern_well c.args.bank.now c.args.kind (lists c.args.pattern) (length c.args.rhs.now) (length c.args.values.now) c.requires }
+
+pub loop-w-init : goal.loop-w-init
+loop-w-init c = record { passed = all_passed c.args.bank.now c.args.kind (lists c.args.pattern) (length c.args.rhs.now) (length c.args.values.now) c.requires; loaded = refl }
 
 pub add_device-requires : goal.add_device-requires
 add_device-requires c =
-    here_accepted c.args.bank.now c.loop-i.i (omega arith) c.device_of-d.result c.device_of-d.ensures c.args.kind (record { columns = c.args.columns.now; offsets = c.args.offsets.now; lengths = c.args.lengths.now })
-    (length c.args.rhs.now) (length c.args.values.now) c.loop-i.invariant.1.1.0 c.loop-i.rhs c.loop-i.values c.loop-i.invariant.0 c.loop-i.invariant.1.0
+    here_accepted c.args.bank.now c.loop-w.w-index (omega arith) c.device_of.result c.device_of.ensures c.args.kind (lists c.args.pattern)
+    (length c.args.rhs.now) (length c.args.values.now) c.loop-w.invariant.passed c.loop-w.rhs c.loop-w.values c.loop-w.auto.rhs c.loop-w.auto.values
 
-pub loop-i-preserved : goal.loop-i-preserved
-loop-i-preserved c = (
-  omega (arith, c.loop-i.invariant.0),
-  (
-    omega (arith, c.loop-i.invariant.1.0),
-    (
-      later_passed c.args.bank.now c.loop-i.i (omega arith) c.device_of-d.result c.device_of-d.ensures c.args.kind (record { columns = c.args.columns.now; offsets = c.args.offsets.now; lengths = c.args.lengths.now }) (length c.args.rhs.now) (length c.args.values.now) c.loop-i.invariant.1.1.0,
-      c.loop-i.invariant.1.1.1
-          ∙ one_turn c.args.bank.now c.loop-i.i (omega arith) c.device_of-d.result c.device_of-d.ensures c.args.kind (record { columns = c.args.columns.now; offsets = c.args.offsets.now; lengths = c.args.lengths.now }) c.loop-i.rhs c.loop-i.values _ _ c.add_device.ensures,
-    ),
-  ),
-)
+pub loop-w-preserved : goal.loop-w-preserved
+loop-w-preserved c = record {
+  passed = later_passed c.args.bank.now c.loop-w.w-index (omega arith) c.device_of.result c.device_of.ensures c.args.kind (lists c.args.pattern) (length c.args.rhs.now) (length c.args.values.now) c.loop-w.invariant.passed;
+  loaded = c.loop-w.invariant.loaded
+      ∙ one_turn c.args.bank.now c.loop-w.w-index (omega arith) c.device_of.result c.device_of.ensures c.args.kind (lists c.args.pattern) c.loop-w.rhs c.loop-w.values _ _ c.add_device.ensures;
+}
 
 pub returns : goal.returns
 returns c =
-    sym (c.loop-i.invariant.1.1.1 ∙ last_turn c.args.bank.now c.loop-i.i c.args.kind (record { columns = c.args.columns.now; offsets = c.args.offsets.now; lengths = c.args.lengths.now }) (record { side = c.loop-i.rhs; matrix = c.loop-i.values }) (omega arith))
+    sym (c.loop-w.invariant.loaded ∙ last_turn c.args.bank.now c.loop-w.w-index c.args.kind (lists c.args.pattern) (record { side = c.loop-w.rhs; matrix = c.loop-w.values }) (omega arith))

@@ -1,20 +1,16 @@
-use Prim.Native.Nat.{◌-◌}
-use native.Mathlib.Omega.{arith}
-use Rattle.device_bank.proofs.Rows.{one_unknown, one_known, all_known}
+use borrow.Author.Tests.{tests}
+use lib.ListN.{length}
+use lib.Ieee.{Float}
+use mathlib.Core.List.{List}
+use Rattle.std.proofs.Common.{rules, ◌∙◌}
+use Rattle.std.proofs.lemmas.Iterator.{YieldsList-from_slice}
+use Rattle.std.proofs.lemmas.Iterator.Search.{all_from_yields_List}
+use Rattle.from_record.specs.Tags.{good_tags}
+use Rattle.record_words.specs.Words.{record_of}
+use Rattle.device_bank.proofs.Rows.{all_good}
 use Rattle.device_bank.proofs.good_bank.Goals as goal
--- `device_bank::good_bank`: record by record.
-use mathlib.Core.Path.{refl, ◌∙◌}
-
-pub loop-i-init : goal.loop-i-init
-loop-i-init c = refl
-
-pub returns-then-not-good_words : goal.returns-then-not-good_words
-returns-then-not-good_words c =
-    one_unknown c.args.bank.now c.loop-i.i (omega arith) _ c.good_words.ensures (c.if-not-good_words.true) c.loop-i.invariant
-
-pub loop-i-preserved : goal.loop-i-preserved
-loop-i-preserved c =
-    c.loop-i.invariant ∙ one_known c.args.bank.now c.loop-i.i (omega arith) _ c.good_words.ensures (c.if-not-good_words.false)
 
 pub returns : goal.returns
-returns c = all_known c.args.bank.now c.loop-i.i (omega arith) c.loop-i.invariant
+returns c =
+    all_from_yields_List (λ (w : List Float). good_tags (record_of w)) c.all.new.self _ c.all.result c.all.ensures.ran (YieldsList-from_slice c.args.bank.now c.iter.ensures.rest) (λ x b q k. search (rules, tests))
+    ∙ all_good c.args.bank.now

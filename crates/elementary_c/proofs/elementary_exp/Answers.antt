@@ -1,6 +1,6 @@
 use Rattle.elementary_c.proofs.elementary_exp.Goals as goal
 
--- What `elementary::elementary_exp` promises is what this ensures.
+-- What `elementary::exp` promises is what this ensures.
 
 pub returns : goal.returns
-returns c = c.elementary_exp.ensures
+returns c = c.exp.ensures

@@ -1,6 +1,6 @@
 use Rattle.elementary_c.proofs.elementary_ln.Goals as goal
 
--- What `elementary::elementary_ln` promises is what this ensures.
+-- What `elementary::ln` promises is what this ensures.
 
 pub returns : goal.returns
-returns c = c.elementary_ln.ensures
+returns c = c.ln.ensures

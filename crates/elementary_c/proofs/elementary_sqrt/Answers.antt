@@ -1,6 +1,6 @@
 use Rattle.elementary_c.proofs.elementary_sqrt.Goals as goal
 
--- What `elementary::elementary_sqrt` promises is what this ensures.
+-- What `elementary::sqrt` promises is what this ensures.
 
 pub returns : goal.returns
-returns c = c.elementary_sqrt.ensures
+returns c = c.sqrt.ensures

@@ -1,4 +1,4 @@
-use lib.Ieee.{Float, binary64, fits, le, of_bits, div, neg}
+use lib.Ieee.{Float, binary64, fits, le, of_bits, neg}
 use lib.Ieee.Fits.{neg-fits}
 use lib.Ieee.Positive.{positive}
 use Rattle.exact.specs.Float64.{◌⊘◌, +1}
@@ -38,7 +38,7 @@ returns-then-x c =
     ap (λ (y : Float). +1 ⊘ y) (c.exp_fixed.ensures ∙ ap exp_fixed c.whole_part.ensures) ∙ exp_of_minus x r.0 r.1
 
 pub returns-then-x-4 : goal.returns-then-x-4
-unfolding div of_bits
+unfolding of_bits
 returns-then-x-4 c = sym (exp_special_cases.above c.args.x (holds c.if-x-4.true))
 
 pub whole_part-requires-then-x-3 : goal.whole_part-requires-then-x-3
@@ -56,10 +56,9 @@ returns-then-x-3 c =
     let r = plus_range x c.if-x-3.true c.if-x-4.false in
     c.exp_fixed-then-x-3.ensures ∙ ap exp_fixed c.whole_part-then-x-3.ensures ∙ exp_of_plus x r.0 r.1
 
-pub returns-then-x-5 : goal.returns-then-x-5
-returns-then-x-5 c =
-    exp_near_zero c.args.x (held _ c.well_formed.0.1) c.if-x.false c.if-x-3.false c.if-x-5.true
+pub returns-then-is_nan : goal.returns-then-is_nan
+unfolding of_bits
+returns-then-is_nan c = exp_of_nan c.args.x (sym c.is_nan.ensures.value ∙ c.if-is_nan.true)
 
-pub returns : goal.returns
-unfolding div of_bits
-returns c = exp_of_nan c.args.x c.if-x-5.false
+pub returns-else-is_nan : goal.returns-else-is_nan
+returns-else-is_nan c = exp_near_zero c.args.x (held _ c.well_formed.0.1) c.if-x.false c.if-x-3.false (sym c.is_nan.ensures.value ∙ c.if-is_nan.false)

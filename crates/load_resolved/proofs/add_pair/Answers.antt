@@ -1,6 +1,6 @@
 use Rattle.std.proofs.Common.{false}
-use Prim.Native.Nat.{◌<◌}
-use lib.ListN.{length}
+use Prim.Native.Nat.{◌+◌, ◌<◌}
+use lib.ListN.{length, get_or}
 use Rattle.assembly.specs.Assembly.{paired}
 use Rattle.resolved_rows.specs.LoadResolved.{add_stored}
 use Rattle.load_resolved.specs.ByNumbers.{add_pair}
@@ -12,22 +12,22 @@ use mathlib.Core.Path.{sym, ◌∙◌}
 
 pub add_known-requires : goal.add_known-requires
 add_known-requires c =
-    let below : (c.args.aa < length c.args.xs.now) × ((c.args.ab < length c.args.xs.now) × ((c.args.ba < length c.args.xs.now) × (c.args.bb < length c.args.xs.now))) = pair_known _ _ _ (sym c.either_ground.ensures ∙ c.if-either_ground.false) _ _ _ _ c.requires in
+    let below : (get_or c.args.cells.now c.args.k 0 < length c.args.xs.now) × ((get_or c.args.cells.now (c.args.k + 1) 0 < length c.args.xs.now) × ((get_or c.args.cells.now (c.args.k + 2) 0 < length c.args.xs.now) × (get_or c.args.cells.now (c.args.k + 3) 0 < length c.args.xs.now))) = pair_known _ _ _ (sym c.either_ground.ensures ∙ c.if-either_ground.false) _ _ _ _ c.requires.1 in
     below.0
 
 pub add_known-requires-else-either_ground : goal.add_known-requires-else-either_ground
 add_known-requires-else-either_ground c =
-    let below : (c.args.aa < length c.args.xs.now) × ((c.args.ab < length c.args.xs.now) × ((c.args.ba < length c.args.xs.now) × (c.args.bb < length c.args.xs.now))) = pair_known _ _ _ (sym c.either_ground.ensures ∙ c.if-either_ground.false) _ _ _ _ c.requires in
+    let below : (get_or c.args.cells.now c.args.k 0 < length c.args.xs.now) × ((get_or c.args.cells.now (c.args.k + 1) 0 < length c.args.xs.now) × ((get_or c.args.cells.now (c.args.k + 2) 0 < length c.args.xs.now) × (get_or c.args.cells.now (c.args.k + 3) 0 < length c.args.xs.now))) = pair_known _ _ _ (sym c.either_ground.ensures ∙ c.if-either_ground.false) _ _ _ _ c.requires.1 in
     still_below _ _ _ c.add_known.ensures below.1.0
 
 pub add_known-requires-else-either_ground-2 : goal.add_known-requires-else-either_ground-2
 add_known-requires-else-either_ground-2 c =
-    let below : (c.args.aa < length c.args.xs.now) × ((c.args.ab < length c.args.xs.now) × ((c.args.ba < length c.args.xs.now) × (c.args.bb < length c.args.xs.now))) = pair_known _ _ _ (sym c.either_ground.ensures ∙ c.if-either_ground.false) _ _ _ _ c.requires in
+    let below : (get_or c.args.cells.now c.args.k 0 < length c.args.xs.now) × ((get_or c.args.cells.now (c.args.k + 1) 0 < length c.args.xs.now) × ((get_or c.args.cells.now (c.args.k + 2) 0 < length c.args.xs.now) × (get_or c.args.cells.now (c.args.k + 3) 0 < length c.args.xs.now))) = pair_known _ _ _ (sym c.either_ground.ensures ∙ c.if-either_ground.false) _ _ _ _ c.requires.1 in
     still_below _ _ _ c.add_known-else-either_ground.ensures (still_below _ _ _ c.add_known.ensures below.1.1.0)
 
 pub add_known-requires-else-either_ground-3 : goal.add_known-requires-else-either_ground-3
 add_known-requires-else-either_ground-3 c =
-    let below : (c.args.aa < length c.args.xs.now) × ((c.args.ab < length c.args.xs.now) × ((c.args.ba < length c.args.xs.now) × (c.args.bb < length c.args.xs.now))) = pair_known _ _ _ (sym c.either_ground.ensures ∙ c.if-either_ground.false) _ _ _ _ c.requires in
+    let below : (get_or c.args.cells.now c.args.k 0 < length c.args.xs.now) × ((get_or c.args.cells.now (c.args.k + 1) 0 < length c.args.xs.now) × ((get_or c.args.cells.now (c.args.k + 2) 0 < length c.args.xs.now) × (get_or c.args.cells.now (c.args.k + 3) 0 < length c.args.xs.now))) = pair_known _ _ _ (sym c.either_ground.ensures ∙ c.if-either_ground.false) _ _ _ _ c.requires.1 in
     still_below _ _ _ c.add_known-else-either_ground-2.ensures (still_below _ _ _ c.add_known-else-either_ground.ensures (still_below _ _ _ c.add_known.ensures below.1.1.1))
 
 pub returns-then-either_ground : goal.returns-then-either_ground

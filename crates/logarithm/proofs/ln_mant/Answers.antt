@@ -26,18 +26,18 @@ sum_lt : (m s : ℕ) → 2 ^ 62 ≤ m → m < 2 ^ 63 → s ≡ ln_mant_of m → 
 sum_lt m s l h e = subst (λ (g : ℕ). g < limit) (sym e) (ln_mant_lt m l h)
 
 pub ln_row-row-requires : goal.ln_row-row-requires
-ln_row-row-requires c = mask_lt (c.args.m / 2 ^ 55) 7
+ln_row-row-requires c = mask_lt (c.args.m.units / 2 ^ 55) 7
 
 pub near_one-requires : goal.near_one-requires
 near_one-requires c =
-    subst (λ (z : ℕ). z < 2 ^ 57) (sym (z_of c.args.m _ _ c.ln_row-row.ensures.0 c.mulhi.ensures)) (z_lt c.args.m c.requires.0 c.requires.1)
+    subst (λ (z : ℕ). z < 2 ^ 57) (sym (z_of c.args.m.units _ _ c.ln_row-row.ensures.0 c.mulhi.ensures)) (z_lt c.args.m.units c.args.m.from_one c.args.m.below_two)
 
 pub overflow_add-result : goal.overflow_add-result
 overflow_add-result c =
-    let e = sum c.args.m _ _ _ _ c.ln_row-row.ensures.0 c.ln_row-row.ensures.1 c.mulhi.ensures c.near_one.ensures in
-    Fits-bits 64 tt (lt_of_lt_of_le (sum_lt c.args.m _ c.requires.0 c.requires.1 e) (lit≤ tt))
+    let e = sum c.args.m.units _ _ _ _ c.ln_row-row.ensures.0 c.ln_row-row.ensures.1 c.mulhi.ensures c.near_one.ensures in
+    Fits-bits 64 tt (lt_of_lt_of_le (sum_lt c.args.m.units _ c.args.m.from_one c.args.m.below_two e) (lit≤ tt))
 
 pub returns : goal.returns
 returns c =
-    let e = sum c.args.m _ _ _ _ c.ln_row-row.ensures.0 c.ln_row-row.ensures.1 c.mulhi.ensures c.near_one.ensures in
-    (e, sum_lt c.args.m _ c.requires.0 c.requires.1 e)
+    let e = sum c.args.m.units _ _ _ _ c.ln_row-row.ensures.0 c.ln_row-row.ensures.1 c.mulhi.ensures c.near_one.ensures in
+    (e, sum_lt c.args.m.units _ c.args.m.from_one c.args.m.below_two e)

@@ -5,7 +5,7 @@ use Rattle.logarithm.proofs.log_above.Goals as goal
 use Rattle.std.proofs.Common.{◌≡◌, ℕ, ◌+◌, ◌/◌, ◌^◌, ◌<◌, ◌≤◌, arith}
 
 pub overflow_add-result : goal.overflow_add-result
-overflow_add-result c = Fits-bits 64 tt (sum _ _ _ c.requires.2 c.twos.ensures c.ln_mant.ensures.1)
+overflow_add-result c = Fits-bits 64 tt (sum _ _ _ c.requires c.twos.ensures c.ln_mant.ensures.1)
   where
     sum : (n t r : ℕ) → n ≤ 1100 → t ≡ twos_of n → r < limit → t + r / 2048 < 2 ^ 64
     sum n t r h e k = omega arith

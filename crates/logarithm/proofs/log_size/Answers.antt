@@ -1,4 +1,4 @@
-use lib.Ieee.{Float, of_bits, div, lt, eq, ne}
+use lib.Ieee.{Float, of_bits, lt, eq, ne}
 use Rattle.exact.specs.Float64.{◌=f◌, +0, +1}
 use Rattle.exponential.proofs.Ranges.{cond_yes, cond_then, cond_else}
 use Rattle.logarithm.specs.Logarithm.{log_of, size_of_log, log_size_of}
@@ -7,6 +7,7 @@ use Rattle.exact.proofs.Tests.{holds, is_false}
 use Rattle.exact.proofs.PositivePatterns.{above_no_nan, bits_above}
 use Rattle.logarithm.proofs.BelowOne.{with_sign}
 use Rattle.logarithm.proofs.log_size.Goals as goal
+use Rattle.logarithm.proofs.log_size.Goals.{else-b-via-then-b+then-b-2+else-b-3, else-b-via-then-b+else-b-2, else-b-via-else-b}
 -- `logarithm::log_size` meets its contract. Assumes nothing.
 use Rattle.std.proofs.Common.{◌≡◌, ℕ, ◌*◌, ◌^◌, ◌≤◌, Bool, true, false, cond, not, T, sym, refl, ap, ◌∙◌, subst, arith}
 
@@ -47,29 +48,22 @@ unfolding of_bits
 float_to_bits-b c = above_no_nan _ c.if-b.true
 
 pub size_of_bits-requires : goal.size_of_bits-requires
-unfolding of_bits div
+unfolding of_bits
 size_of_bits-requires c = bits_above _ (subst T (sym c.well_formed.0.1) tt) c.if-b.true c.if-b-2.true
 
 pub returns-then-b-3 : goal.returns-then-b-3
-unfolding of_bits div log_size_of
+unfolding of_bits log_size_of
 returns-then-b-3 c =
     let log = with_sign c.args.b (subst T (sym c.well_formed.0.1) tt) c.if-b.true c.if-b-2.true (unequal _ _ c.if-b-3.true) _ c.size_of_bits.ensures in
     (size_either (lt c.args.b +1) _ ∙ ap size_of_log (sym log), λ h. log)
 
-pub returns-else-b-3 : goal.returns-else-b-3
-unfolding of_bits div log_size_of log_of
-returns-else-b-3 c = (
-  size_of_one ∙ ap size_of_log (cond_then _ _ _ _ c.if-b.true (cond_then _ _ _ _ c.if-b-2.true (cond_yes _ _ _ (equal _ _ c.if-b-3.false)))),
+pub returns : goal.returns
+unfolding of_bits log_size_of log_of
+returns c = (
+  elim c.else-b.branch [
+    | else-b-via-then-b+then-b-2+else-b-3 w ↦ size_of_one ∙ ap size_of_log (cond_then _ _ _ _ w.if-b.true (cond_then _ _ _ _ w.if-b-2.true (cond_yes _ _ _ (equal _ _ w.if-b-3.false))))
+    | else-b-via-then-b+else-b-2 w ↦ no_size false ∙ ap size_of_log (cond_then _ _ _ _ w.if-b.true (cond_else _ _ _ _ w.if-b-2.false refl))
+    | else-b-via-else-b w ↦ no_size (c.args.b =f +0) ∙ ap size_of_log (cond_else _ _ _ _ w.if-b.false refl)
+  ],
   λ h. beyond h,
 )
-
-pub returns-else-b-2 : goal.returns-else-b-2
-unfolding of_bits div log_size_of log_of
-returns-else-b-2 c = (
-  no_size false ∙ ap size_of_log (cond_then _ _ _ _ c.if-b.true (cond_else _ _ _ _ c.if-b-2.false refl)),
-  λ h. beyond h,
-)
-
-pub returns-else-b : goal.returns-else-b
-unfolding of_bits div log_size_of log_of
-returns-else-b c = (no_size (c.args.b =f +0) ∙ ap size_of_log (cond_else _ _ _ _ c.if-b.false refl), λ h. beyond h)

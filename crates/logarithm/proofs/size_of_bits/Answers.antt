@@ -12,11 +12,11 @@ use Rattle.std.proofs.Common.{ℕ, ◌+◌, ◌-◌, ◌*◌, ◌/◌, ◌^◌, 
 pub overflow_cast-z : goal.overflow_cast-z
 overflow_cast-z c = Fits-le (leading_le 64 c.args.bits) (Fits-lit tt)
 
-pub overflow_sub-z : goal.overflow_sub-z
-overflow_sub-z c = le_trans (lit≤ tt) (lead 1 tt c.args.bits c.requires.0 c.if-bits-lt4503599627370496.true).low
+pub overflow_sub-units : goal.overflow_sub-units
+overflow_sub-units c = le_trans (lit≤ tt) (lead 1 tt c.args.bits c.requires.0 c.if-bits-lt4503599627370496.true).low
 
-pub overflow_shl-bits : goal.overflow_shl-bits
-overflow_shl-bits c = shift (count_leading_zeros 64 c.args.bits) (lead 1 tt c.args.bits c.requires.0 c.if-bits-lt4503599627370496.true).high
+pub overflow_shl-units : goal.overflow_shl-units
+overflow_shl-units c = shift (count_leading_zeros 64 c.args.bits) (lead 1 tt c.args.bits c.requires.0 c.if-bits-lt4503599627370496.true).high
   where
     shift : (z : ℕ) → z ≤ 63 → z - 1 < 64
     shift z h = omega arith
@@ -27,10 +27,15 @@ overflow_add-z c = Fits-bits 64 tt (sum _ _ (lit≤ tt) (leading_le 64 c.args.bi
     sum : (k z : ℕ) → k ≤ 1011 → z ≤ 64 → k + z < 2 ^ 64
     sum k z h g = omega (arith, h, g)
 
+pub invariant_of-log_below : goal.invariant_of-log_below
+invariant_of-log_below c =
+    let l = lead 1 tt c.args.bits c.requires.0 c.if-bits-lt4503599627370496.true in
+    record { from_one = subst (λ (x : ℕ). 2 ^ 62 ≤ x) (sym l.same) l.from; below_two = subst (λ (x : ℕ). x < 2 ^ 63) (sym l.same) l.below }
+
 pub log_below-requires : goal.log_below-requires
 log_below-requires c =
     let l = lead 1 tt c.args.bits c.requires.0 c.if-bits-lt4503599627370496.true in
-    (subst (λ (x : ℕ). 2 ^ 62 ≤ x) (sym l.same) l.from, subst (λ (x : ℕ). x < 2 ^ 63) (sym l.same) l.below, low _ _ (lit≤ tt), high _ _ (lit≤ tt) l.high)
+    (low _ _ (lit≤ tt), high _ _ (lit≤ tt) l.high)
   where
     low : (k z : ℕ) → 1 ≤ k → 0 < k + z
     low k z h = omega (arith, h)
@@ -53,7 +58,7 @@ pub overflow_sub-field : goal.overflow_sub-field
 overflow_sub-field c = omega arith
 
 pub log_below-requires-then-field-lt1023 : goal.log_below-requires-then-field-lt1023
-log_below-requires-then-field-lt1023 c = let d = c.digits-m.ensures in (d.1, d.2, some _ c.if-field-lt1023.true, few _)
+log_below-requires-then-field-lt1023 c = (some _ c.if-field-lt1023.true, few _)
   where
     some : (f : ℕ) → f < 1023 → 0 < 1023 - f
     some f h = omega arith
@@ -67,12 +72,12 @@ returns-then-field-lt1023 c =
     let b = c.args.bits in
     let e = lt-ltb (b / 2 ^ 52) 1023 c.if-field-lt1023.true in
     sym
-    (ap Below (c.log_below-then-field-lt1023.ensures ∙ ap (λ (m : ℕ). twos_of (1023 - b / 2 ^ 52) - ln_mant_of m / 2048) c.digits-m.ensures.0)
+    (ap Below (c.log_below-then-field-lt1023.ensures ∙ ap (λ (m : ℕ). twos_of (1023 - b / 2 ^ 52) - ln_mant_of m / 2048) c.digits-m.ensures)
     ∙ cond_else _ _ _ _ (le-ltb b (2 ^ 52) c.if-bits-lt4503599627370496.false) (cond_yes _ _ _ e))
     ∙ cond_yes _ _ _ e
 
 pub log_above-requires : goal.log_above-requires
-log_above-requires c = let d = c.digits-m.ensures in (d.1, d.2, field _ c.requires.1)
+log_above-requires c = field _ c.requires.1
   where
     field : (b : ℕ) → b < 2047 * 2 ^ 52 → b / 2 ^ 52 - 1023 ≤ 1100
     field b h = omega arith
@@ -83,6 +88,6 @@ returns c =
     let b = c.args.bits in
     let e = le-ltb (b / 2 ^ 52) 1023 c.if-field-lt1023.false in
     sym
-    (ap Above (c.log_above.ensures ∙ ap (λ (m : ℕ). twos_of (b / 2 ^ 52 - 1023) + ln_mant_of m / 2048) c.digits-m.ensures.0)
+    (ap Above (c.log_above.ensures ∙ ap (λ (m : ℕ). twos_of (b / 2 ^ 52 - 1023) + ln_mant_of m / 2048) c.digits-m.ensures)
     ∙ cond_else _ _ _ _ (le-ltb b (2 ^ 52) c.if-bits-lt4503599627370496.false) (cond_else _ _ _ _ e refl))
     ∙ cond_else _ _ _ _ e refl

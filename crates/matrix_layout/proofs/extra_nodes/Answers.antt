@@ -1,4 +1,3 @@
-use Rattle.std.proofs.Common.{true, false}
 use mathlib.Core.Path.{ap, ◌∙◌}
 use Rattle.device.specs.Refusals.{done}
 use Rattle.device.proofs.Branches.{cond_yes, cond_no, tested}

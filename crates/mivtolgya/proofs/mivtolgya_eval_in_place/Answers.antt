@@ -1,17 +1,16 @@
 use Rattle.record_steps.specs.Steps.{changed_record}
 use Rattle.export_steps.proofs.EvalInPlace.{charged, uncharged, evaluation_refused}
 use Rattle.mivtolgya.proofs.mivtolgya_eval_in_place.Goals as goal
+use Rattle.mivtolgya.proofs.mivtolgya_eval_in_place.Goals.{in-Some, in_default}
 
-pub returns-in-Transient : goal.returns-in-Transient
+pub returns-in-Err : goal.returns-in-Err
+returns-in-Err c =
+    evaluation_refused c.args.device.now c.args.x.now c.args.conditions _ _ c.in-Err.ensures c.refused_reply.ensures
+
+pub returns : goal.returns
 unfolding changed_record
-returns-in-Transient c =
-    charged c.args.device.now c.args.x.now c.args.conditions _ c.in-Transient.changes _ c.read_voltages-at.ensures c.in-Transient.ensures c.charges-charges.ensures
-
-pub returns-in-DirectCurrent : goal.returns-in-DirectCurrent
-unfolding changed_record
-returns-in-DirectCurrent c =
-    uncharged c.args.device.now c.args.x.now c.args.conditions _ c.in-DirectCurrent.changes c.read_voltages-at.ensures c.in-DirectCurrent.ensures
-
-pub returns-in-Refusal : goal.returns-in-Refusal
-returns-in-Refusal c =
-    evaluation_refused c.args.device.now c.args.x.now c.args.conditions _ c.in-Refusal.reply c.read_voltages-at.ensures c.in-Refusal.ensures
+returns c =
+    elim c.match-charges.branch [
+      | in-Some w ↦ rw w.device-is (charged c.args.device.now c.args.x.now c.args.conditions _ _ _ c.in-Ok.ensures c.evaluate-changes.ensures w.in-Some.ensures)
+      | in_default w ↦ rw w.device-is (uncharged c.args.device.now c.args.x.now c.args.conditions _ _ c.in-Ok.ensures c.evaluate-changes.ensures w.in_default.ensures)
+    ]

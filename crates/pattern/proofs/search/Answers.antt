@@ -1,6 +1,6 @@
 use lib.Seq.{slice}
 use Rattle.pattern.specs.Pattern.{place_in}
-use Rattle.pattern.specs.declared.Found.TheVariants.{At}
+use Rattle.std.specs.Prelude.{Some}
 use Rattle.pattern.proofs.Places.{places_found, bracket_none, bracket_start, bracket_up, bracket_down}
 use Rattle.pattern.proofs.search.Goals as goal
 -- `pattern::search`: the column stands neither before lo nor from hi on.
@@ -24,7 +24,7 @@ bounds-columns-mid c = omega (arith, c.requires)
 pub returns-then-here-column : goal.returns-then-here-column
 returns-then-here-column c =
     let e : get_or c.args.columns.now (c.loop-lo.lo + (c.loop-lo.hi - c.loop-lo.lo) / 2) 0 ≡ c.args.column = sym c.wide-here.ensures ∙ c.if-here-column.true in
-    subst (λ (x : ℕ). At (c.loop-lo.lo + (c.loop-lo.hi - c.loop-lo.lo) / 2) ≡ place_in c.args.from (slice c.args.from c.args.to c.args.columns.now) x) e
+    subst (λ (x : ℕ). Some (c.loop-lo.lo + (c.loop-lo.hi - c.loop-lo.lo) / 2) ≡ place_in c.args.from (slice c.args.from c.args.to c.args.columns.now) x) e
     (sym (places_found c.args.columns.now c.args.from c.args.to c.requires.1.0 c.requires.1.1 (c.loop-lo.lo + (c.loop-lo.hi - c.loop-lo.lo) / 2) (omega arith) (omega arith)))
 
 pub overflow_add-lo : goal.overflow_add-lo

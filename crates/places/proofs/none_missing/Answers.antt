@@ -1,37 +1,12 @@
-use native.Mathlib.Omega.{arith}
-use Rattle.places.proofs.Missing.{missing_here, missing_later, missing_end}
+use Rattle.std.proofs.Common.{◌≡◌, not, eqb, ℕ, ◌∙◌, rules}
+use Rattle.std.proofs.lemmas.Iterator.{YieldsList-from_slice}
+use Rattle.std.proofs.lemmas.Iterator.Search.{all_from_yields_List}
+use borrow.Author.Tests.{tests}
+use Rattle.places.specs.Places.{missing_number}
+use Rattle.places.proofs.Missing.{asked_of_each}
 use Rattle.places.proofs.none_missing.Goals as goal
--- `places::none_missing`: none of the places that are left is missing exactly if none of all is.
-use mathlib.Core.Path.{refl, sym, ◌∙◌}
 
--- src/lib.rt:102:5
-pub loop-k-init : goal.loop-k-init
-loop-k-init c = refl
-
--- src/lib.rt:103:12
-pub offset_bounds-places-k : goal.offset_bounds-places-k
-offset_bounds-places-k c = omega arith
-
--- src/lib.rt:103:12
-pub bounds-places-k : goal.bounds-places-k
-bounds-places-k c = omega arith
-
--- src/lib.rt:104:13
-pub returns-then-places-k : goal.returns-then-places-k
-returns-then-places-k c = sym (c.loop-k.invariant ∙ missing_here c.args.places.now c.loop-k.k (omega arith) c.if-places-k.true)
-
--- src/lib.rt:106:9
-pub overflow_add-k : goal.overflow_add-k
-overflow_add-k c = omega arith
-
--- src/lib.rt:102:5
-pub loop-k-smaller : goal.loop-k-smaller
-loop-k-smaller c = omega arith
-
--- src/lib.rt:102:5
-pub loop-k-preserved : goal.loop-k-preserved
-loop-k-preserved c = c.loop-k.invariant ∙ missing_later c.args.places.now c.loop-k.k (omega arith) c.if-places-k.false
-
--- src/lib.rt:98:1
 pub returns : goal.returns
-returns c = sym (c.loop-k.invariant ∙ missing_end c.args.places.now c.loop-k.k (omega arith))
+returns c =
+    all_from_yields_List (λ (p : ℕ). not (eqb p missing_number)) _ _ _ c.all.ensures.ran (YieldsList-from_slice c.args.places.now cc) (λ x b q k. search (rules, tests))
+    ∙ asked_of_each c.args.places.now

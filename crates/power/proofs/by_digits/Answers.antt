@@ -29,18 +29,30 @@ raise-e-requires c = (c.requires.0, c.exponent-n_rest.ensures.few)
 
 pub returns-then-below : goal.returns-then-below
 returns-then-below c =
-    let v = c.requires.0 in (
-      rw (c.if-below.true, c.raise-a.ensures, to_minus_fraction _ _ c.exponent-m_digits.ensures v true),
-      rw (c.if-below.true, c.raise-c.ensures, to_fraction _ _ c.exponent-m_rest.ensures v true),
-      rw (c.if-below.true, c.raise-d.ensures, to_minus_fraction _ _ c.exponent-n_digits.ensures v true),
-      rw (c.if-below.true, c.raise-e.ensures, to_fraction _ _ c.exponent-n_rest.ensures v true),
+    let v = c.requires.0 in
+    rw (
+      c.if-below.true,
+      c.raise-a.ensures,
+      c.raise-c.ensures,
+      c.raise-d.ensures,
+      c.raise-e.ensures,
+      to_minus_fraction _ _ c.exponent-m_digits.ensures v true,
+      to_fraction _ _ c.exponent-m_rest.ensures v true,
+      to_minus_fraction _ _ c.exponent-n_digits.ensures v true,
+      to_fraction _ _ c.exponent-n_rest.ensures v true,
     )
 
 pub returns : goal.returns
 returns c =
-    let v = c.requires.0 in (
-      rw (c.if-below.false, c.raise-a.ensures, to_minus_fraction _ _ c.exponent-m_digits.ensures v false),
-      rw (c.if-below.false, c.raise-c.ensures, to_fraction _ _ c.exponent-m_rest.ensures v false),
-      rw (c.if-below.false, c.raise-d.ensures, to_minus_fraction _ _ c.exponent-n_digits.ensures v false),
-      rw (c.if-below.false, c.raise-e.ensures, to_fraction _ _ c.exponent-n_rest.ensures v false),
+    let v = c.requires.0 in
+    rw (
+      c.if-below.false,
+      c.raise-a.ensures,
+      c.raise-c.ensures,
+      c.raise-d.ensures,
+      c.raise-e.ensures,
+      to_minus_fraction _ _ c.exponent-m_digits.ensures v false,
+      to_fraction _ _ c.exponent-m_rest.ensures v false,
+      to_minus_fraction _ _ c.exponent-n_digits.ensures v false,
+      to_fraction _ _ c.exponent-n_rest.ensures v false,
     )

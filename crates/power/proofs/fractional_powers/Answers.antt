@@ -8,6 +8,7 @@ use Rattle.power.proofs.BaseOne.{one_to}
 use Rattle.power.proofs.fractional_powers.Goals as goal
 -- `power::fractional_powers` meets its contract. Assumes nothing.
 use mathlib.Core.Path.{sym, ap, ◌∙◌}
+use Rattle.std.specs.Prelude.{map, [], ◌∷◌}
 
 -- below 700, and so below 760
 room : (v : ℕ) → v ≤ 700 * 2 ^ 53 → v ≤ 760 * 2 ^ 53
@@ -16,7 +17,8 @@ room v h = omega arith
 pub returns-then-b : goal.returns-then-b
 returns-then-b c =
     let e = c.if-b.true in
-    (sym (one_to _ _ e), sym (one_to _ _ e), sym (one_to _ _ e), sym (one_to _ _ e))
+    let a = c.args in
+    λ i. sym (one_to a.b (neg a.m) e) i ∷ sym (one_to a.b (+1 ⊖ a.m) e) i ∷ sym (one_to a.b (neg a.n) e) i ∷ sym (one_to a.b (+1 ⊖ a.n) e) i ∷ []
 
 pub by_digits-requires : goal.by_digits-requires
 by_digits-requires c =
@@ -27,12 +29,7 @@ unfolding pow_of
 returns-then-fractions-2 c =
     let a = c.args in
     let e = sym (c.log_size-v.ensures.1 (room _ c.if-v-le6305039478318694400.true)) in
-    let r = c.by_digits.ensures in (
-      r.0 ∙ ap (λ (l : Log). pow_from l (neg a.m)) e,
-      r.1 ∙ ap (λ (l : Log). pow_from l (+1 ⊖ a.m)) e,
-      r.2 ∙ ap (λ (l : Log). pow_from l (neg a.n)) e,
-      r.3 ∙ ap (λ (l : Log). pow_from l (+1 ⊖ a.n)) e,
-    )
+    c.by_digits.ensures ∙ ap (λ (l : Log). map (pow_from l) (neg a.m ∷ (+1 ⊖ a.m) ∷ neg a.n ∷ (+1 ⊖ a.n) ∷ [])) e
 
 pub returns : goal.returns
-returns c = c.four_powers.ensures
+returns c = c.powers.ensures

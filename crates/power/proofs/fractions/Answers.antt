@@ -7,6 +7,3 @@ use mathlib.Core.Path.{sym, subst}
 
 pub returns-then-m : goal.returns-then-m
 returns-then-m c = λ e. both_fractional c.args.m (subst T (sym c.well_formed.0.1) tt) (holds c.if-m.true) (holds e)
-
-pub returns : goal.returns
-returns c = λ e. absurd (holds e)

@@ -1,6 +1,6 @@
 use Prim.Native.Nat.{ℕ, ◌*◌, ◌^◌, ◌≤◌}
 use native.Mathlib.Omega.{arith}
-use lib.Ieee.{Float, of_bits, div}
+use lib.Ieee.{Float, of_bits}
 use borrow.Author.Tests.{lt-ltb, le-ltb}
 use Rattle.exact.specs.Float64.{◌⊘◌, +1}
 use Rattle.exponential.proofs.Ranges.{cond_yes, cond_then, cond_else}
@@ -17,7 +17,7 @@ unfolding power_of
 returns-then-down c = cond_then _ _ _ _ (lt-ltb (700 * 2 ^ 50) _ c.if-t-gt788129934789836800.true) (cond_yes _ _ _ c.if-down.true)
 
 pub returns-then-t-gt788129934789836800 : goal.returns-then-t-gt788129934789836800
-unfolding power_of div of_bits
+unfolding power_of of_bits
 returns-then-t-gt788129934789836800 c = cond_then _ _ _ _ (lt-ltb (700 * 2 ^ 50) _ c.if-t-gt788129934789836800.true) (cond_else _ _ _ _ c.if-down.false refl)
 
 pub exp_fixed-e-requires : goal.exp_fixed-e-requires

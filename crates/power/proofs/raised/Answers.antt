@@ -1,6 +1,6 @@
 use mathlib.Core.Bool.{Bool, true}
 use lib.Dec.{T}
-use lib.Ieee.{Float, of_bits, div, le, lt}
+use lib.Ieee.{Float, of_bits, le, lt}
 use Rattle.exponential.specs.Exponential.{least}
 use Rattle.power.specs.Power.{four, power_of, product_of}
 use Rattle.power.proofs.Exponents.{at_most_four}
@@ -10,7 +10,7 @@ use Rattle.power.proofs.raised.Goals as goal
 use mathlib.Core.Path.{◌≡◌, sym, ap, ◌∙◌, subst}
 
 pub returns-then-a-2 : goal.returns-then-a-2
-unfolding div of_bits
+unfolding of_bits
 returns-then-a-2 c =
     let z = c.size-a.ensures in
     too_large c.args.v c.args.below c.args.p (sym (ap (le least) z) ∙ c.if-a.true) (sym (ap (lt four) z) ∙ c.if-a-2.true)
@@ -29,11 +29,11 @@ returns-then-a c =
     ∙ (λ i. power_of ((c.product.ensures ∙ ap (λ (x : Float). product_of x a.v) z) i) (c.down.ensures i))
     ∙ within a.v a.below a.p (sym (ap (le least) z) ∙ c.if-a.true) (sym (ap (lt four) z) ∙ c.if-a-2.false)
 
-pub returns-then-p : goal.returns-then-p
-returns-then-p c =
+pub returns-else-is_nan : goal.returns-else-is_nan
+returns-else-is_nan c =
     let a = c.args in
-    tiny a.v a.below a.p (subst T (sym c.well_formed.1.1.0.1) tt) (sym (ap (le least) c.size-a.ensures) ∙ c.if-a.false) c.if-p.true
+    tiny a.v a.below a.p (subst T (sym c.well_formed.1.1.0.1) tt) (sym (ap (le least) c.size-a.ensures) ∙ c.if-a.false) (sym c.is_nan.ensures.value ∙ c.if-is_nan.false)
 
-pub returns : goal.returns
-unfolding div of_bits
-returns c = let a = c.args in no_number a.v a.below a.p c.if-p.false
+pub returns-then-is_nan : goal.returns-then-is_nan
+unfolding of_bits
+returns-then-is_nan c = let a = c.args in no_number a.v a.below a.p (sym c.is_nan.ensures.value ∙ c.if-is_nan.true)

@@ -1,4 +1,4 @@
-use lib.Ieee.{of_bits, div}
+use lib.Ieee.{of_bits}
 use Rattle.exponential.proofs.Ranges.{cond_yes, cond_else}
 use Rattle.power.proofs.undefined_to.Goals as goal
 -- `power::undefined_to` meets its contract. Assumes nothing.
@@ -7,6 +7,6 @@ use mathlib.Core.Path.{refl}
 pub returns-then-p : goal.returns-then-p
 returns-then-p c = cond_yes _ _ _ c.if-p.true
 
-pub returns : goal.returns
-unfolding div of_bits
-returns c = cond_else _ _ _ _ c.if-p.false refl
+pub returns-else-p : goal.returns-else-p
+unfolding of_bits
+returns-else-p c = cond_else _ _ _ _ c.if-p.false refl

@@ -8,7 +8,7 @@ use Rattle.record_resolved.proofs.Inside.{inside}
 use Rattle.record_resolved.proofs.Numbers.{of_tags}
 use Rattle.record_resolved.proofs.row.Goals as goal
 -- `record_resolved::row`: the tags, then the device's own rows.
-use Rattle.std.proofs.Common.{ℕ, ◌<◌, sym, ap, ◌∙◌, subst, ltb-true, le-leb}
+use Rattle.std.proofs.Common.{ℕ, ◌<◌, sym, ap, ◌∙◌, subst, ltb-true, le-leb, arith}
 
 pub returns-then-not-good_tags_at_once : goal.returns-then-not-good_tags_at_once
 unfolding good_load resolved_number
@@ -29,14 +29,14 @@ pub resolved_row-requires : goal.resolved_row-requires
 unfolding device_from
 resolved_row-requires c =
     let d = c.device_from-d.ensures in
-    let n = c.smaller.ensures in (
+    let n = c.min.ensures in (
       c.node_numbers-n.ensures ∙ ap (λ (d : Mosfet1). nodes_of d.terminals) (sym d),
       λ e. rw d
-          (inside _ c.args.r.terminals _ _ _ n.0 n.1 (subst (λ (m : ℕ). m < c.smaller.result) c.indices.ensures (ltb-true _ _ e))),
+          (inside _ c.args.r.terminals _ _ _ (omega (arith, n)) (omega (arith, n)) (subst (λ (m : ℕ). m < c.min.result) c.indices.ensures (ltb-true _ _ e))),
     )
 
 pub returns : goal.returns
 unfolding good_load resolved_number
 returns c =
     let g = c.good_tags_at_once in
-    rw (c.wide.ensures, c.resolved_row.ensures, c.kind_from-kind.ensures, c.device_from-d.ensures, ← g.ensures, c.if-not-good_tags_at_once.false, le-leb _ 1 c.if-transient-gt1.false)
+    rw (c.number.ensures, c.resolved_row.ensures, c.kind_from-kind.ensures, c.device_from-d.ensures, ← g.ensures, c.if-not-good_tags_at_once.false, le-leb _ 1 c.if-transient-gt1.false)

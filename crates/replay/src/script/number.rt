@@ -1,150 +1,107 @@
-// What a single word writes.
+// What a single word writes, or nothing.
 ghost use Rattle.std.specs.Prelude.{◌≡◌};
-ghost use Rattle.replay.specs.Number.{number_of, whole_of, node_of, method_of, steps_of, gear_of};
+ghost use Rattle.replay.specs.Number.{number_of, whole_of, with_digit, node_of, method_of, on_both, one_step, two_steps, steps_of};
 
-use crate::script::word::{same, until};
+use crate::script::word::place_of;
 use device::{Discretisation, NodeId};
-use hex_text::Bits;
-
-// A float, or a word that is none.
-#[derive(Clone, Copy)]
-pub enum Number {
-    Is(f64),
-    Not,
-}
-
-// A whole number of 64 bits, or a word that is none.
-#[derive(Clone, Copy)]
-pub enum Whole {
-    Is(u64),
-    Not,
-}
-
-// A node, or a word that is none.
-#[derive(Clone, Copy)]
-pub enum Node {
-    Is(NodeId),
-    Not,
-}
-
-// An integration method, or a word that is none.
-#[derive(Clone, Copy)]
-pub enum Method {
-    Is(Discretisation),
-    Not,
-}
 
 // A float by its bits, or `nan`.
-pub fn read_number(w: &[u8]) -> Number
+#[tactic(auto, unfolding(crate::specs::Number::number_of))]
+pub fn read_number(w: &[u8]) -> Option<f64>
     ensures { result ≡ number_of w.now }
 {
-    if same(w, b"nan") {
-        return Number::Is(0.0 / 0.0);
+    if w == b"nan".as_slice() {
+        return Some(f64::NAN);
     }
     if w.len() != 16 {
-        return Number::Not;
+        return None;
     }
-    match hex_text::bits_at(w, 0) {
-        Bits::Is(b) => Number::Is(hex_text::float_of(b)),
-        Bits::Not => Number::Not,
+    let bits = hex_text::bits_at(w, 0)?;
+    Some(hex_text::float_of(bits))
+}
+
+// A decimal digit after those that make n.
+#[tactic(auto, using(std::proofs::lemmas::Bool::Decides::nat_tests), unfolding(crate::specs::Number::with_digit))]
+fn with_digit(n: u64, b: u8) -> Option<u64>
+    ensures { result ≡ with_digit n b }
+{
+    if b < b'0' || b'9' < b {
+        return None;
     }
+    n.checked_mul(10)?.checked_add(u64::from(b - b'0'))
 }
 
 // A whole number in decimal.
-pub fn read_whole(w: &[u8]) -> Whole
+#[tactic(auto, using(crate::proofs::script::Decimal::digit_read, crate::proofs::script::Decimal::all_read), unfolding(crate::specs::Number::whole_of))]
+pub fn read_whole(w: &[u8]) -> Option<u64>
     ensures { result ≡ whole_of w.now }
 {
-    if w.len() == 0 {
-        return Whole::Not;
+    if w.is_empty() {
+        return None;
     }
     let mut n = 0u64;
-    let mut i = 0;
-    while i < w.len() {
-        let b = w[i];
-        if b < 48 {
-            return Whole::Not;
-        }
-        if b > 57 {
-            return Whole::Not;
-        }
-        let d = (b - 48) as u64;
-        if n > 1844674407370955161 {
-            return Whole::Not;
-        }
-        if n == 1844674407370955161 {
-            if d > 5 {
-                return Whole::Not;
-            }
-        }
-        n = n * 10 + d;
-        i += 1;
+    for b in w {
+        n = with_digit(n, *b)?;
     }
-    Whole::Is(n)
+    Some(n)
 }
 
 // A node by its number; `-` is ground.
-pub fn read_node(w: &[u8]) -> Node
+#[tactic(auto, unfolding(crate::specs::Number::node_of))]
+pub fn read_node(w: &[u8]) -> Option<NodeId>
     ensures { result ≡ node_of w.now }
 {
-    if same(w, b"-") {
-        return Node::Is(NodeId::Ground);
+    if w == b"-".as_slice() {
+        return Some(NodeId::Ground);
     }
-    match read_whole(w) {
-        Whole::Is(n) => Node::Is(NodeId::At(n as usize)),
-        Whole::Not => Node::Not,
-    }
+    let n = read_whole(w)?;
+    Some(NodeId::At(n as usize))
 }
 
 // `none`, `euler:H`, `trap:H` or `gear:H:HPREV`.
-pub fn read_method(w: &[u8]) -> Method
+#[tactic(auto, unfolding(crate::specs::Number::method_of, crate::specs::Number::on_both))]
+pub fn read_method(w: &[u8]) -> Option<Discretisation>
     ensures { result ≡ method_of w.now }
 {
-    if same(w, b"none") {
-        return Method::Is(Discretisation::None);
+    if w == b"none".as_slice() {
+        return Some(Discretisation::None);
     }
-    let start = 0;
-    let end = until(w, start, b':');
-    if w.len() <= end {
-        return Method::Not;
-    }
-    let after = end + 1;
-    read_steps(&w[start..end], &w[after..])
+    let colon = place_of(w, b':')?;
+    read_steps(&w[..colon], &w[colon + 1..])
 }
 
 // A method by its name and its step lengths.
-fn read_steps(name: &[u8], steps: &[u8]) -> Method
+#[tactic(auto, unfolding(crate::specs::Number::steps_of))]
+fn read_steps(name: &[u8], steps: &[u8]) -> Option<Discretisation>
     ensures { result ≡ steps_of name.now steps.now }
 {
-    if same(name, b"gear") {
+    if name == b"gear".as_slice() {
         return read_gear(steps);
     }
-    let Number::Is(h) = read_number(steps) else {
-        return Method::Not;
-    };
-    if same(name, b"euler") {
-        return Method::Is(Discretisation::Euler(h));
+    let h = read_number(steps)?;
+    one_step(name, h)
+}
+
+#[tactic(auto, unfolding(crate::specs::Number::one_step))]
+fn one_step(name: &[u8], h: f64) -> Option<Discretisation>
+    ensures { result ≡ one_step name.now h }
+{
+    if name == b"euler".as_slice() {
+        return Some(Discretisation::Euler(h));
     }
-    if same(name, b"trap") {
-        return Method::Is(Discretisation::Trapezoid(h));
+    if name == b"trap".as_slice() {
+        return Some(Discretisation::Trapezoid(h));
     }
-    Method::Not
+    None
 }
 
 // Gear's two step lengths, a colon between.
-fn read_gear(steps: &[u8]) -> Method
-    ensures { result ≡ gear_of steps.now }
+#[tactic(auto, unfolding(crate::specs::Number::on_both, crate::specs::Number::two_steps))]
+fn read_gear(steps: &[u8]) -> Option<Discretisation>
+    ensures { result ≡ on_both two_steps steps.now }
 {
-    let start = 0;
-    let end = until(steps, start, b':');
-    if steps.len() <= end {
-        return Method::Not;
-    }
-    let after = end + 1;
-    let Number::Is(h) = read_number(&steps[start..end]) else {
-        return Method::Not;
-    };
-    let Number::Is(h_prev) = read_number(&steps[after..]) else {
-        return Method::Not;
-    };
-    Method::Is(Discretisation::Gear(h, h_prev))
+    let colon = place_of(steps, b':')?;
+    let h = read_number(&steps[..colon])?;
+    let h_prev = read_number(&steps[colon + 1..])?;
+    Some(Discretisation::Gear(h, h_prev))
 }

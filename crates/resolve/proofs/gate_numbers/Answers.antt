@@ -5,21 +5,6 @@ use Rattle.resolve.proofs.gate_numbers.Goals as goal
 -- `resolve::gate_numbers`.
 use mathlib.Core.Path.{refl}
 
-pub number-g_g-requires : goal.number-g_g-requires
-number-g_g-requires c = c.requires
-
-pub number-g_s-requires : goal.number-g_s-requires
-number-g_s-requires c = c.requires
-
-pub number-g_d-requires : goal.number-g_d-requires
-number-g_d-requires c = c.requires
-
-pub number-g_b-requires : goal.number-g_b-requires
-number-g_b-requires c = c.requires
-
-pub number-b_g-requires : goal.number-b_g-requires
-number-b_g-requires c = c.requires
-
 pub returns : goal.returns
 unfolding numbers_of gate_pairs_of
 returns c =

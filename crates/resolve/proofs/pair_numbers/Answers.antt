@@ -5,57 +5,6 @@ use Rattle.resolve.proofs.pair_numbers.Goals as goal
 -- `resolve::pair_numbers`: each cell stands where `jac_pairs` has it.
 use mathlib.Core.Path.{refl}
 
-pub number-d_g-requires : goal.number-d_g-requires
-number-d_g-requires c = c.requires
-
-pub number-d_d-requires : goal.number-d_d-requires
-number-d_d-requires c = c.requires
-
-pub number-d_s-requires : goal.number-d_s-requires
-number-d_s-requires c = c.requires
-
-pub number-d_b-requires : goal.number-d_b-requires
-number-d_b-requires c = c.requires
-
-pub number-s_g-requires : goal.number-s_g-requires
-number-s_g-requires c = c.requires
-
-pub number-s_d-requires : goal.number-s_d-requires
-number-s_d-requires c = c.requires
-
-pub number-s_s-requires : goal.number-s_s-requires
-number-s_s-requires c = c.requires
-
-pub number-s_b-requires : goal.number-s_b-requires
-number-s_b-requires c = c.requires
-
-pub number-dx_dx-requires : goal.number-dx_dx-requires
-number-dx_dx-requires c = c.requires
-
-pub number-dx_d-requires : goal.number-dx_d-requires
-number-dx_d-requires c = c.requires
-
-pub number-d_dx-requires : goal.number-d_dx-requires
-number-d_dx-requires c = c.requires
-
-pub number-sx_sx-requires : goal.number-sx_sx-requires
-number-sx_sx-requires c = c.requires
-
-pub number-sx_s-requires : goal.number-sx_s-requires
-number-sx_s-requires c = c.requires
-
-pub number-s_sx-requires : goal.number-s_sx-requires
-number-s_sx-requires c = c.requires
-
-pub number-b_b-requires : goal.number-b_b-requires
-number-b_b-requires c = c.requires
-
-pub number-b_s-requires : goal.number-b_s-requires
-number-b_s-requires c = c.requires
-
-pub number-b_d-requires : goal.number-b_d-requires
-number-b_d-requires c = c.requires
-
 pub returns : goal.returns
 unfolding numbers_of jac_pairs_of
 returns c =

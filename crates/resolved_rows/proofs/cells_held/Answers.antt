@@ -1,5 +1,4 @@
 use mathlib.Core.Bool.{Bool, true, false, cond}
-use borrow.Author.Tests.{not-true, not-false}
 use Rattle.resolved_rows.specs.ByNumbers.{held}
 use Rattle.resolved_rows.proofs.Below.{no_pair_missed, no_branch_missed}
 use Rattle.resolved_rows.proofs.cells_held.Goals as goal
@@ -10,24 +9,25 @@ cond_same : (b : Bool) → true ≡ cond b true true
 cond_same true = refl
 cond_same false = refl
 
-pub returns-then-not-nodes_are : goal.returns-then-not-nodes_are
-unfolding held
-returns-then-not-nodes_are c = rw (← c.nodes_are.ensures, c.if-not-nodes_are.true)
-
 pub returns-then-all_below : goal.returns-then-all_below
 unfolding held
 returns-then-all_below c =
     let below = sym c.all_below.ensures ∙ c.if-all_below.true in
-    rw (← c.nodes_are.ensures, c.if-not-nodes_are.false, no_pair_missed c.args.len c.args.cells.now below _, no_branch_missed c.args.len c.args.cells.now below c.args.n c.args.q) (cond_same c.args.transient)
+    rw (← c.nodes_are.ensures, c.if-nodes_are.true, no_pair_missed c.args.len c.args.cells.now below _, no_branch_missed c.args.len c.args.cells.now below c.args.n c.args.q)
+    (c.if-all_below.true ∙ cond_same c.args.transient)
 
-pub returns-then-not-pairs_there : goal.returns-then-not-pairs_there
+pub returns-then-not-transient : goal.returns-then-not-transient
 unfolding held
-returns-then-not-pairs_there c = rw (← c.nodes_are.ensures, c.if-not-nodes_are.false, ← c.pairs_there.ensures, c.if-not-pairs_there.true)
+returns-then-not-transient c = rw (← c.nodes_are.ensures, c.if-nodes_are.true, ← c.pairs_there.ensures, c.if-pairs_there.true, c.if-not-transient.true)
 
-pub returns-then-transient : goal.returns-then-transient
+pub returns-else-not-transient : goal.returns-else-not-transient
 unfolding held
-returns-then-transient c = rw (← c.nodes_are.ensures, c.if-not-nodes_are.false, ← c.pairs_there.ensures, c.if-not-pairs_there.false, c.if-transient.true) c.branches_there.ensures
+returns-else-not-transient c = rw (← c.nodes_are.ensures, c.if-nodes_are.true, ← c.pairs_there.ensures, c.if-pairs_there.true, ← c.branches_there.ensures, c.if-not-transient.false)
 
-pub returns : goal.returns
+pub returns-else-pairs_there : goal.returns-else-pairs_there
 unfolding held
-returns c = rw (← c.nodes_are.ensures, c.if-not-nodes_are.false, ← c.pairs_there.ensures, c.if-not-pairs_there.false, c.if-transient.false)
+returns-else-pairs_there c = rw (← c.nodes_are.ensures, c.if-nodes_are.true, ← c.pairs_there.ensures, c.if-pairs_there.false)
+
+pub returns-else-nodes_are : goal.returns-else-nodes_are
+unfolding held
+returns-else-nodes_are c = rw (← c.nodes_are.ensures, c.if-nodes_are.false)

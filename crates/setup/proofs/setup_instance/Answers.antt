@@ -8,11 +8,11 @@ use Rattle.setup.proofs.setup_instance.Goals as goal
 -- Assumes nothing.
 use mathlib.Core.Path.{◌∙◌, ap}
 
-pub returns-then-beyond : goal.returns-then-beyond
-returns-then-beyond c = refused_8 _ _ _ _ _ _ (drain_beyond _ (tested (c.beyond.ensures ∙ ap (node_beyond node_limit) c.inner_drain.ensures) c.if-beyond.true))
+pub returns-then-is_beyond : goal.returns-then-is_beyond
+returns-then-is_beyond c = refused_8 _ _ _ _ _ _ (drain_beyond _ (tested (c.is_beyond.ensures ∙ ap (node_beyond node_limit) c.inner_drain.ensures) c.if-is_beyond.true))
 
 pub terminals-terminals-requires : goal.terminals-terminals-requires
-terminals-terminals-requires c = next_fits _ _ _ c.ranges.first.fits (tested (c.beyond.ensures ∙ ap (node_beyond node_limit) c.inner_drain.ensures) c.if-beyond.false)
+terminals-terminals-requires c = next_fits _ _ _ c.ranges.first.fits (tested (c.is_beyond.ensures ∙ ap (node_beyond node_limit) c.inner_drain.ensures) c.if-is_beyond.false)
 
 pub returns-then-any_beyond : goal.returns-then-any_beyond
 returns-then-any_beyond c = refused_8 _ _ _ _ _ _ (tested (c.any_beyond.ensures ∙ ap (any_node_beyond node_limit) c.terminals-terminals.ensures) c.if-any_beyond.true)

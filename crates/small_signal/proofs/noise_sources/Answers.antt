@@ -1,16 +1,18 @@
-use borrow.Author.Tests.{eq-eqb, ne_eqb}
-use Rattle.model.specs.SmallSignal.{sources_of}
+use Rattle.std.proofs.lemmas.Result.{err_from_is_err_and}
+use Rattle.rows.proofs.Results.{not_0}
+use Rattle.model.specs.SmallSignal.{source_of}
 use Rattle.model.proofs.ByRow.{noise_by_row}
 use Rattle.small_signal.proofs.noise_sources.Goals as goal
 
-pub returns-then-row-ne0 : goal.returns-then-row-ne0
-unfolding sources_of
-returns-then-row-ne0 c = rw (noise_by_row _ _ _, ← c.noise_row-row.ensures, ne_eqb _ 0 c.if-row-ne0.true)
+pub returns-in_err-noise_row : goal.returns-in_err-noise_row
+returns-in_err-noise_row c =
+    let p = err_from_is_err_and c.from_residual.result c.from_residual.ensures.1 in
+    rw (p.1, p.2, noise_by_row _ _ _, ← c.in_err-noise_row.ensures, not_0 c.in_err-noise_row.field-0.0)
 
-pub returns-then-s : goal.returns-then-s
-unfolding sources_of
-returns-then-s c = rw (noise_by_row _ _ _, ← c.noise_row-row.ensures, eq-eqb _ 0 c.if-row-ne0.false, ← c.density-s.ensures, c.if-s.true)
+pub returns-then-density : goal.returns-then-density
+unfolding source_of
+returns-then-density c = rw (noise_by_row _ _ _, ← c.in_ok-noise_row.ensures, ← c.density-density.ensures, c.if-density.true)
 
 pub returns : goal.returns
-unfolding sources_of
-returns c = rw (noise_by_row _ _ _, ← c.noise_row-row.ensures, eq-eqb _ 0 c.if-row-ne0.false, ← c.density-s.ensures, c.if-s.false)
+unfolding source_of
+returns c = rw (noise_by_row _ _ _, ← c.in_ok-noise_row.ensures, ← c.density-density.ensures, c.if-density.false)

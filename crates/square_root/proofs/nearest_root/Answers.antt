@@ -49,8 +49,8 @@ overflow_add-result c = Fits-bits 64 tt (room _ c.requires.0)
     room : (s : ℕ) → s < 2 ^ 58 → s + 1 < 2 ^ 64
     room s h = omega arith
 
-pub returns-then-rest-s : goal.returns-then-rest-s
-returns-then-rest-s c =
+pub returns-else-rest-s-2 : goal.returns-else-rest-s-2
+returns-else-rest-s-2 c =
     above_root (record {
       low = c.requires.1;
       high = c.requires.2;

@@ -22,5 +22,5 @@ pub returns-then-x-y : goal.returns-then-x-y
 returns-then-x-y c =
     c.requires ∙ ap sqrt_of (by_pattern c.args.x c.args.y (subst T (sym c.well_formed.0.1) tt) (subst T (sym c.well_formed.1.0.1) tt) c.if-x-y.true)
 
-pub returns : goal.returns
-returns c = c.sqrt.ensures
+pub returns-else-x : goal.returns-else-x
+returns-else-x c = c.sqrt.ensures

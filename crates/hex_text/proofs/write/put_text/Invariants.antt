@@ -1,11 +1,7 @@
-use Prim.Native.Nat.{◌-◌, ◌≤◌}
-use mathlib.Core.Path.{◌≡◌}
-use lib.ListN.{length, drop}
-use Rattle.hex_text.specs.Text.{end_of, text_at}
+use Rattle.std.proofs.Common.{drop}
+use Rattle.hex_text.proofs.Joining.{Left}
 use Rattle.hex_text.proofs.write.put_text.Given as goal
 
-abbrev pub invariant-loop-i : goal.invariant-loop-i
-invariant-loop-i l = (l.i ≤ length l.text) × (length l.out ≡ length l.initial.out) × (end_of (length l.initial.out) l.at l.text ≡ end_of (length l.initial.out) l.n (drop l.i l.text)) × (text_at l.initial.out l.at l.text ≡ text_at l.out l.n (drop l.i l.text))
-
-abbrev pub decreases-loop-i : goal.decreases-loop-i
-decreases-loop-i l = length l.text - l.i
+-- what the definition makes of the text is what it makes of the part that is left, behind n
+abbrev pub invariant-loop-b : goal.invariant-loop-b
+invariant-loop-b l = Left l.initial.out l.at l.text l.out l.n (drop l.b-index l.text)

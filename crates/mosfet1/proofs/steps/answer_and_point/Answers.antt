@@ -22,23 +22,5 @@ point_at_lem d v vt gmin a = λ i. operating_point_of d.card.polarity a (v.vb �
     (stamp_over_exponential (d.geometry.isat_bs ⊗ d.scaled.isat_t_factor) d.card.polarity (v.vb ⊖ v.vs) vt gmin i)
     (stamp_over_exponential (d.geometry.isat_bd ⊗ d.scaled.isat_t_factor) d.card.polarity (v.vb ⊖ v.vd) vt gmin i)
 
-pub junction_exponential-e_bs-requires : goal.junction_exponential-e_bs-requires
-junction_exponential-e_bs-requires c = tt
-
-pub junction_exponential-e_bd-requires : goal.junction_exponential-e_bd-requires
-junction_exponential-e_bd-requires c = tt
-
-pub evaluated_answer-answer-requires : goal.evaluated_answer-answer-requires
-evaluated_answer-answer-requires c = tt
-
-pub junction_stamp_at-bs-requires : goal.junction_stamp_at-bs-requires
-junction_stamp_at-bs-requires c = tt
-
-pub junction_stamp_at-bd-requires : goal.junction_stamp_at-bd-requires
-junction_stamp_at-bd-requires c = tt
-
-pub operating_point-point-requires : goal.operating_point-point-requires
-operating_point-point-requires c = tt
-
 pub returns : goal.returns
 returns c = (c.evaluated_answer-answer.ensures, rw (point_at_lem _ _ _ _ _, c.operating_point-point.ensures, c.junction_stamp_at-bd.ensures, c.junction_stamp_at-bs.ensures, c.evaluated_answer-answer.ensures, c.junction_exponential-e_bd.ensures, c.junction_exponential-e_bs.ensures))

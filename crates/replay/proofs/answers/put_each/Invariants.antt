@@ -1,11 +1,7 @@
-use Prim.Native.Nat.{◌-◌, ◌≤◌}
-use lib.ListN.{length, drop}
-use Rattle.replay.specs.Text.{each_text}
+use Rattle.std.proofs.Common.{◌++◌, drop}
+use Rattle.replay.specs.Text.{each_by}
 use Rattle.hex_text.proofs.Joining.{Left}
 use Rattle.replay.proofs.answers.put_each.Given as goal
 
-abbrev pub invariant-loop-i : goal.invariant-loop-i
-invariant-loop-i l = (l.i ≤ length l.xs) × Left l.initial.out l.at (each_text l.xs) l.out l.n (each_text (drop l.i l.xs))
-
-abbrev pub decreases-loop-i : goal.decreases-loop-i
-decreases-loop-i l = length l.xs - l.i
+abbrev pub invariant-loop-x : goal.invariant-loop-x
+invariant-loop-x g l = Left l.initial.out l.fn.at (each_by (λ y. l.fn.before ++ g.T.Text.text y) l.fn.xs) l.out l.n (each_by (λ y. l.fn.before ++ g.T.Text.text y) (drop l.x-index l.fn.xs))

@@ -1,37 +1,22 @@
-use mathlib.Core.List.{[], ◌∷◌}
-use native.Mathlib.Omega.{arith}
-use lib.ListN.{drop, get_or}
-use lib.Ieee.{nan}
-use Rattle.replay.specs.Text.{next_text, item_text, each_by}
-use Rattle.hex_text.proofs.Joining.{Written, begun, further, left_is}
-use Rattle.replay.proofs.answers.Lists.{each_first, none_listed, still_long, all_listed}
+use Rattle.std.proofs.Common.{◌≡◌, ℕ, [], ◌∷◌, ◌++◌, length, rules}
+use Rattle.replay.specs.Text.{each_by}
+use Rattle.hex_text.proofs.Joining.{Written, joined}
+use Rattle.replay.proofs.answers.Lists.{none_listed, some_listed, written_as}
 use Rattle.replay.proofs.answers.put_list.Goals as goal
 
-pub returns-then-xs-eq0 : goal.returns-then-xs-eq0
-returns-then-xs-eq0 c =
+pub returns-in-None : goal.returns-in-None
+returns-in-None g c =
     let A = c.args in let P = c.put_text in
+    let h : length A.xs.now ≡ 0 = search rules in
     let w : Written A.out.now A.at (32 ∷ 45 ∷ []) P.result P.new.out = record { ends = P.ensures.value; holds = P.ensures.out_after } in
-    let all = none_listed next_text item_text A.xs.now c.if-xs-eq0.true w in
+    let all = written_as (none_listed g.T.Text.text A.xs.now h) w in
     record { value = all.ends; out_after = all.holds }
 
-pub loop-i-init : goal.loop-i-init
-loop-i-init c = let A = c.args in let P = c.put_next-n in (omega arith, omega arith, begun P.new.out P.result (each_by item_text (drop 1 A.xs.now)))
-
-pub loop-i-preserved : goal.loop-i-preserved
-loop-i-preserved c =
-    let A = c.args in let L = c.loop-i in let P = c.put_item-n in
-    let w : Written L.out L.n (item_text (get_or A.xs.now L.i nan)) P.result P.new.out = record { ends = P.ensures.value; holds = P.ensures.out_after } in
-    (omega arith, omega arith, further (left_is (each_first item_text A.xs.now L.i nan (omega arith)) L.invariant.2) w)
-
-pub shape_of-out : goal.shape_of-out
-shape_of-out c =
-    let A = c.args in let P = c.put_next-n in
-    let w : Written A.out.now A.at (next_text (get_or A.xs.now 0 nan)) P.result P.new.out = record { ends = P.ensures.value; holds = P.ensures.out_after } in
-    still_long next_text item_text A.xs.now nan c.loop-i.i w c.loop-i.invariant.2
-
-pub returns : goal.returns
-returns c =
-    let A = c.args in let P = c.put_next-n in
-    let w : Written A.out.now A.at (next_text (get_or A.xs.now 0 nan)) P.result P.new.out = record { ends = P.ensures.value; holds = P.ensures.out_after } in
-    let all = all_listed next_text item_text A.xs.now nan c.loop-i.i w c.loop-i.invariant.2 c.if-xs-eq0.false (omega arith) in
+pub returns-in-Some : goal.returns-in-Some
+returns-in-Some g c =
+    let A = c.args in let X = c.in-Some in let P = c.put_behind-n in let Q = c.put_each in
+    let e : A.xs.now ≡ X.first.now ∷ X.further.now = search rules in
+    let v : Written A.out.now A.at ((32 ∷ []) ++ g.T.Text.text X.first.now) P.result P.new.out = record { ends = P.ensures.value; holds = P.ensures.out_after } in
+    let w : Written P.new.out P.result (each_by (λ y. (44 ∷ []) ++ g.T.Text.text y) X.further.now) Q.result Q.new.out = record { ends = Q.ensures.value; holds = Q.ensures.out_after } in
+    let all = written_as (some_listed g.T.Text.text A.xs.now X.first.now X.further.now e) (joined v w) in
     record { value = all.ends; out_after = all.holds }

@@ -1,6 +1,0 @@
-use Rattle.device.specs.Stages.{unbound}
-use Rattle.step_rows.proofs.unbound.Goals as goal
-
-pub returns : goal.returns
-unfolding unbound
-returns c = c.before-2.ensures
