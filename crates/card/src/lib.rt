@@ -321,7 +321,7 @@ pub fn from_model_params(
         × (unknown.new ≡ card_list_of lent.entry.bytes.now lent.entry.offsets.now lent.entry.lengths.now lent.entry.values.now unknown.old) }
 {
     let keys = lent.paired()?;
-    let read = entries::test_keys(Table::Card, keys, unknown.len())?;
+    let read = entries::test_paired(Table::Card, keys, unknown.len())?;
     if read.outside {
         return Err(Refusal::Temperature);
     }

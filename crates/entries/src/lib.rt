@@ -4,6 +4,7 @@
 ghost use Rattle.std.specs.Prelude.{◌≡◌, ◌+◌, ◌≤◌, ◌<◌, ◌^◌, Float, length};
 ghost use Rattle.std.proofs.lemmas.List.Edits.{sets};
 ghost use Rattle.device.specs.Refusals.{outcome};
+ghost use Rattle.key_pairs.specs.Pairs.{Inside};
 ghost use Rattle.keys.specs.Names.{meaning_of};
 ghost use Rattle.keys.specs.declared.Meaning.{Meaning};
 ghost use Rattle.entries.specs.Entries.{
@@ -19,7 +20,7 @@ ghost use Rattle.entries.specs.Entries.{
 };
 
 use device::{Mosfet1, Refusal};
-use key_pairs::PairedKeys;
+use key_pairs::{LentKeys, PairedKeys};
 use keys::{Meaning, Table};
 
 // What one pass over the keys finds: a byte of 128 or more, the count of unknown keys, a value outside its range, a nominal
@@ -62,22 +63,22 @@ fn beyond_ascii(key: &[u8]) -> bool
     key.iter().any(|byte| 128 <= *byte)
 }
 
-// The key at a place.
-fn key_at<'a>(keys: PairedKeys<'a>, i: usize) -> &'a [u8]
-    requires { i < length keys.lent.offsets.now }
-    ensures { result.now ≡ key_at keys.entry.lent.bytes.now keys.entry.lent.offsets.now keys.entry.lent.lengths.now i }
+// The key at a place whose pair lies within the bytes; of the others nothing is asked.
+fn key_at<'a>(lent: LentKeys<'a>, i: usize) -> &'a [u8]
+    requires { Inside lent.bytes.now lent.offsets.now lent.lengths.now i }
+    ensures { result.now ≡ key_at lent.entry.bytes.now lent.entry.offsets.now lent.entry.lengths.now i }
 {
-    let at = keys.lent.offsets[i];
-    let end = at + keys.lent.lengths[i];
-    &keys.lent.bytes[at..end]
+    let at = lent.offsets[i];
+    let end = at + lent.lengths[i];
+    &lent.bytes[at..end]
 }
 
-// What the key at a place means.
-pub fn meaning_at(table: Table, keys: PairedKeys<'_>, i: usize) -> Meaning
-    requires { i < length keys.lent.offsets.now }
-    ensures { result ≡ meaning_of table (key_at keys.entry.lent.bytes.now keys.entry.lent.offsets.now keys.entry.lent.lengths.now i) }
+// What the key at such a place means.
+pub fn meaning_at(table: Table, lent: LentKeys<'_>, i: usize) -> Meaning
+    requires { Inside lent.bytes.now lent.offsets.now lent.lengths.now i }
+    ensures { result ≡ meaning_of table (key_at lent.entry.bytes.now lent.entry.offsets.now lent.entry.lengths.now i) }
 {
-    key_names::meaning_of(table, key_at(keys, i))
+    key_names::meaning_of(table, key_at(lent, i))
 }
 
 impl Scan {
@@ -105,7 +106,7 @@ pub fn read<S: Settings>(table: Table, start: S, keys: PairedKeys<'_>) -> S
 {
     let mut settings = start;
     for i in 0..keys.lent.offsets.len() {
-        settings.assign(meaning_at(table, keys, i), keys.lent.values[i]);
+        settings.assign(meaning_at(table, keys.lent, i), keys.lent.values[i]);
     }
     settings
 }
@@ -121,15 +122,23 @@ fn scan_keys(table: Table, keys: PairedKeys<'_>) -> Scan
         tnom_outside: false,
     };
     for i in (0..keys.lent.offsets.len()).rev() {
-        let key = key_at(keys, i);
+        let key = key_at(keys.lent, i);
         let m = key_names::meaning_of(table, key);
         scan = scan.with(beyond_ascii(key), m, keys.lent.values[i]);
     }
     scan
 }
 
-// Rows 1 to 4 for keys that row 1 lets pass, with space for so many places of unknown keys.
-pub fn test_keys(table: Table, keys: PairedKeys<'_>, space: usize) -> Result<KeysRead, Refusal>
+// Rows 1 to 4 for the keys of a call, with space for so many places of unknown keys.
+pub fn test_keys(table: Table, lent: LentKeys<'_>, space: usize) -> Result<KeysRead, Refusal>
+    ensures { outcome result ≡ keys_of table lent.entry.bytes.now lent.entry.offsets.now lent.entry.lengths.now lent.entry.values.now space }
+{
+    let keys = lent.paired()?;
+    test_paired(table, keys, space)
+}
+
+// The same for keys that row 1 lets pass.
+pub fn test_paired(table: Table, keys: PairedKeys<'_>, space: usize) -> Result<KeysRead, Refusal>
     ensures { outcome result ≡ keys_of table keys.entry.lent.bytes.now keys.entry.lent.offsets.now keys.entry.lent.lengths.now keys.entry.lent.values.now space }
 {
     let scan = scan_keys(table, keys);
@@ -155,7 +164,7 @@ pub fn list_unknown(table: Table, keys: PairedKeys<'_>, list: &mut [usize])
 {
     let mut k = 0;
     for i in 0..keys.lent.offsets.len() {
-        if keys::is_unknown(meaning_at(table, keys, i)) {
+        if keys::is_unknown(meaning_at(table, keys.lent, i)) {
             list[k] = i;
             k += 1;
         }

@@ -148,7 +148,7 @@ pub fn set_instance_params(
         × (unknown.new ≡ geometry_list_of device lent.entry.bytes.now lent.entry.offsets.now lent.entry.lengths.now lent.entry.values.now unknown.old) }
 {
     let keys = lent.paired()?;
-    let read = entries::test_keys(Table::Geometry, keys, unknown.len())?;
+    let read = entries::test_paired(Table::Geometry, keys, unknown.len())?;
     let start = fresh_sizes(device.geometry.nrd, device.geometry.nrs);
     let sizes = entries::read(Table::Geometry, start, keys);
     if oxide_missing(device.card.kf, sizes.w, sizes.l, device.card.cox) {

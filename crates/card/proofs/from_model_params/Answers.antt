@@ -26,10 +26,10 @@ returns-in_err-read c =
     rw (← c.in_ok-keys.ensures.passed) (ap outcome answer.1 ∙ ap (λ (r : Refusal). refused (number_of r)) answer.2 ∙ k.0, k.1)
 
 pub returns-then-read : goal.returns-then-read
-returns-then-read c = let p = answered c.test_keys.ensures c.in_ok-read.was in rw (← c.in_ok-keys.ensures.passed) (at_6 _ _ _ _ _ _ p.none (tested p.tnom c.if-read.true))
+returns-then-read c = let p = answered c.test_paired.ensures c.in_ok-read.was in rw (← c.in_ok-keys.ensures.passed) (at_6 _ _ _ _ _ _ p.none (tested p.tnom c.if-read.true))
 
 pub list_unknown-requires : goal.list_unknown-requires
-list_unknown-requires c = (answered c.test_keys.ensures c.in_ok-read.was).room
+list_unknown-requires c = (answered c.test_paired.ensures c.in_ok-read.was).room
 
 pub returns : goal.returns
 unfolding parameters_of
@@ -37,7 +37,7 @@ returns c =
     let a = c.args in
     let k = c.in_ok-keys.keys.lent in
     let es = entries_of k.bytes.now k.offsets.now k.lengths.now k.values.now in
-    let p = answered c.test_keys.ensures c.in_ok-read.was in
+    let p = answered c.test_paired.ensures c.in_ok-read.was in
     let g = accepted a.is_pmos _ _ _ _ _ p.none (tested p.tnom c.if-read.false) in
     let device = c.fresh_device.ensures ∙ ap (fresh_device a.is_pmos) (c.read-parameters.ensures ∙ ap (λ (d : Parameters). parameters_of d es) c.defaults.ensures) in
     rw (← c.in_ok-keys.ensures.passed) ((λ i. done (record { device = device i; unknown = p.count i })) ∙ g.0, c.list_unknown.ensures ∙ g.1)

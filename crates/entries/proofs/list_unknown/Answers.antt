@@ -16,6 +16,9 @@ use mathlib.Core.Path.{◌≡◌, ◌∙◌, sym, ap, ap₂}
 
 -- the test of the key at i
 
+pub meaning_at-requires : goal.meaning_at-requires
+meaning_at-requires c = (paired _ _ _ _ c.args.keys.paired).within _ c.loop-i-test.true
+
 pub bounds-list-k : goal.bounds-list-k
 bounds-list-k c = room_for_place _ _ _ _ _ (paired _ _ _ _ c.args.keys.paired) _ c.loop-i-test.true _ _ _ (c.is_unknown.ensures ∙ ap is_unknown c.meaning_at.ensures) c.loop-i.invariant.0 c.if-is_unknown.true
 

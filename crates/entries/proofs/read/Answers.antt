@@ -13,6 +13,9 @@ use mathlib.Core.Path.{◌∙◌, sym, ap}
 pub bounds-keys-i : goal.bounds-keys-i
 bounds-keys-i g c = omega (arith, (paired _ _ _ _ c.args.keys.paired).as_many_values)
 
+pub meaning_at-requires : goal.meaning_at-requires
+meaning_at-requires g c = (paired _ _ _ _ c.args.keys.paired).within _ c.loop-i-test.true
+
 pub loop-i-preserved : goal.loop-i-preserved
 loop-i-preserved g c =
     let k = c.args.keys.lent in

@@ -15,6 +15,9 @@ pub loop-i-init : goal.loop-i-init
 unfolding any_beyond_ascii unknown_from unknown_count any_outside any_tnom_outside
 loop-i-init c = let k = c.args.keys.lent in sym (ap (scan_of c.args.table) (entry_end k.bytes.now k.offsets.now k.lengths.now k.values.now (length k.offsets.now) (le_refl _)))
 
+pub key_at-key-requires : goal.key_at-key-requires
+key_at-key-requires c = (paired _ _ _ _ c.args.keys.paired).within _ (omega arith)
+
 pub bounds-keys-i : goal.bounds-keys-i
 bounds-keys-i c = omega (arith, (paired _ _ _ _ c.args.keys.paired).as_many_values)
 

@@ -33,7 +33,7 @@ returns-then-oxide_missing c =
     let es = entries_of k.bytes.now k.offsets.now k.lengths.now k.values.now in
     let sizes = c.read-sizes.ensures ∙ ap (λ (s : Sizes). sizes_of s es) c.fresh_sizes-start.ensures in
     let oxide = c.oxide_missing.ensures ∙ ap (λ (s : Sizes). oxide_missing d.card.kf s.w s.l d.card.cox) sizes in
-    let p = answered c.test_keys.ensures c.in_ok-read.was in
+    let p = answered c.test_paired.ensures c.in_ok-read.was in
     rw (← c.in_ok-keys.ensures.passed) (at_5 _ _ _ _ _ _ p.none (tested oxide c.if-oxide_missing.true))
 
 pub returns-then-before : goal.returns-then-before
@@ -44,11 +44,11 @@ returns-then-before c =
     let es = entries_of k.bytes.now k.offsets.now k.lengths.now k.values.now in
     let sizes = c.read-sizes.ensures ∙ ap (λ (s : Sizes). sizes_of s es) c.fresh_sizes-start.ensures in
     let oxide = c.oxide_missing.ensures ∙ ap (λ (s : Sizes). oxide_missing d.card.kf s.w s.l d.card.cox) sizes in
-    let p = answered c.test_keys.ensures c.in_ok-read.was in
+    let p = answered c.test_paired.ensures c.in_ok-read.was in
     rw (← c.in_ok-keys.ensures.passed) (at_10 _ _ _ _ _ _ p.none (tested oxide c.if-oxide_missing.false) (tested c.before-2.ensures c.if-before.true))
 
 pub list_unknown-requires : goal.list_unknown-requires
-list_unknown-requires c = (answered c.test_keys.ensures c.in_ok-read.was).room
+list_unknown-requires c = (answered c.test_paired.ensures c.in_ok-read.was).room
 
 pub returns : goal.returns
 unfolding sizes_of
@@ -58,7 +58,7 @@ returns c =
     let es = entries_of k.bytes.now k.offsets.now k.lengths.now k.values.now in
     let sizes = c.read-sizes.ensures ∙ ap (λ (s : Sizes). sizes_of s es) c.fresh_sizes-start.ensures in
     let oxide = c.oxide_missing.ensures ∙ ap (λ (s : Sizes). oxide_missing d.card.kf s.w s.l d.card.cox) sizes in
-    let p = answered c.test_keys.ensures c.in_ok-read.was in
+    let p = answered c.test_paired.ensures c.in_ok-read.was in
     let device = c.sized.ensures ∙ ap (sized_to d) sizes in
     let g = accepted d _ _ _ _ _ p.none (tested oxide c.if-oxide_missing.false) (tested c.before-2.ensures c.if-before.false) in
     rw (← c.in_ok-keys.ensures.passed) ((λ i. done (record { device = device i; unknown = p.count i })) ∙ g.0, c.list_unknown.ensures ∙ g.1)
