@@ -7,7 +7,7 @@ ghost use Rattle.std.specs.Prelude.{◌≡◌, cond};
 ghost use Rattle.pattern.specs.Pattern.{lists};
 ghost use Rattle.stamps.specs.Stamps.{jac_pairs_of};
 ghost use Rattle.places.specs.Places.{index_of, nodes_of, terminals_at, SpanIn, IsRow, span_number, numbers_of, gate_places_of, four_there, none_missing, branches_there, any_gate};
-ghost use Rattle.places.specs.LookedUp.{looked_up};
+ghost use Rattle.places.specs.LookedUp.{cells_of, looked_up};
 
 use device::{NodeId, Terminals};
 use pattern::{RowSpan, WellFormed};
@@ -228,15 +228,25 @@ fn any_gate(b: ChargeBranches) -> bool
     b.gs.conducts || b.gd.conducts || b.gb.conducts
 }
 
-// Looks up every needed cell; none where one of them is not in the pattern.
-#[tactic(auto, unfolding(crate::specs::LookedUp::looked_up, crate::specs::LookedUp::cells_of))]
+// Looks up every needed cell; one that is not in the pattern is marked as missing.
+#[tactic(auto, unfolding(crate::specs::LookedUp::cells_of))]
+pub fn all_cells(pattern: WellFormed<'_>, n: Nodes, b: ChargeBranches) -> Cells
+    ensures { result ≡ cells_of (lists pattern.entry.pattern) (terminals_at n) b }
+{
+    Cells {
+        places: jacobian_places(pattern, n),
+        gate: gate_places(pattern, n, any_gate(b)),
+    }
+}
+
+// The same, but none where one of them is not in the pattern.
+#[tactic(auto, unfolding(crate::specs::LookedUp::looked_up))]
 pub fn look_up(pattern: WellFormed<'_>, n: Nodes, b: ChargeBranches) -> Option<Cells>
     ensures { result ≡ looked_up (lists pattern.entry.pattern) (terminals_at n) b }
 {
-    let places = jacobian_places(pattern, n);
-    let gate = gate_places(pattern, n, any_gate(b));
-    if none_missing(&places) && branches_there(&places, gate, b) {
-        Some(Cells { places, gate })
+    let cells = all_cells(pattern, n, b);
+    if none_missing(&cells.places) && branches_there(&cells.places, cells.gate, b) {
+        Some(cells)
     } else {
         None
     }
