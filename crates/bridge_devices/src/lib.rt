@@ -25,6 +25,14 @@ pub fn lower(a: Result<(), Refusal>, b: Result<(), Refusal>) -> Result<(), Refus
     }
 }
 
+// The lower of two numbers, where 0 is none.
+#[tactic(auto, unfolding(crate::specs::Steps::lower))]
+pub fn lower_number(a: u8, b: u8) -> u8
+    ensures { result ≡ lower a b }
+{
+    if a == 0 || (b != 0 && b < a) { b } else { a }
+}
+
 // The first of rows 8, 10, 11, 12 and 13 that applies to a device. The pattern is handed on as row 12's test left it: none where the row
 // applies.
 #[tactic(auto, unfolding(crate::specs::Steps::device_row, crate::specs::Steps::first_of))]
