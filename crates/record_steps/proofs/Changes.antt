@@ -60,11 +60,16 @@ made_done : (r : DeviceRecord) (v : Voltages) (k : ConditionsRecord) → Made r 
 unfolding Made outcome_from charges_from by_flag
 made_done r v k = made_by_flag r v k (eqb k.transient 1)
 
+-- a refusal stores nothing
+made_refused : (r : DeviceRecord) (k : ConditionsRecord) (n : ℕ) → Made r k (refused n) (refused_evaluation r n)
+unfolding Made outcome_from
+made_refused r k n = refl
+
 made_by_row : (r : DeviceRecord) (k : ConditionsRecord) (v : Voltages) (n : ℕ) (b : Bool)
     → Made r k (cond b (done (read_at v (record { 0 = k.temperature }))) (refused n)) (evaluation_outcome r (cond b (done (evaluated_of (device_from r) v (eqb k.transient 1) (conditions_from k))) (refused n)))
-unfolding Made outcome_from evaluation_outcome
+unfolding evaluation_outcome
 made_by_row r k v n true = made_done r v k
-made_by_row r k v n false = refl
+made_by_row r k v n false = made_refused r k n
 
 made_read : (r : DeviceRecord) (x : List Float) (k : ConditionsRecord) → Made r k (read_of (device_from r) x (conditions_from k)) (evaluation_outcome r (eval_of (device_from r) x (eqb k.transient 1) (conditions_from k)))
 unfolding conditions_from
@@ -81,8 +86,8 @@ pub evaluation_made : (r : DeviceRecord) (x : List Float) (k : ConditionsRecord)
 unfolding reading_of eval_call Made outcome_from
 evaluation_made r x k =
     made_either r k (good_tags r) _ _ _ _
-    (made_either r k (good_conditions k) _ _ _ _ (made_read r x k) refl)
-    refl
+    (made_either r k (good_conditions k) _ _ _ _ (made_read r x k) (made_refused r k 100))
+    (made_refused r k 100)
 
 pub evaluation_outcome_lem : (r : DeviceRecord) (x : List Float) (k : ConditionsRecord) (a : Outcome Reading) → a ≡ reading_of r x k → outcome_from r k a ≡ eval_call r x k
 evaluation_outcome_lem r x k a e = ap (outcome_from r k) e ∙ evaluation_made r x k

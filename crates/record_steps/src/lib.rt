@@ -4,8 +4,9 @@
 ghost use Rattle.std.specs.Prelude.{◌<◌, ◌≡◌, false, length};
 ghost use Rattle.device.specs.Nodes.{any_node_beyond};
 ghost use Rattle.device.specs.Refusals.{number_of, outcome};
+ghost use Rattle.device.specs.Stages.{unbound};
 ghost use Rattle.rows.specs.Rows.{node_voltage_of, voltages_of, row11_of};
-ghost use Rattle.from_record.specs.Devices.{node_from, method_from, terminals_from, device_from};
+ghost use Rattle.from_record.specs.Devices.{node_from, method_from, stage_from, terminals_from, device_from};
 ghost use Rattle.record_steps.specs.Steps.{good_conditions, conditions_from, refused_reply, read_at_of, read_of, reading_of, changes_at, charges_from, commit_record_of};
 
 use bias::{Answer, Voltages};
@@ -138,6 +139,17 @@ fn voltages_inside(x: &[f64], t: TerminalsRecord) -> Voltages
     }
 }
 
+// Whether the stage of that number is before binding: 1, 2 or 3. By the number, so that no stage is made first.
+#[tactic(auto, using(crate::proofs::ByNumbers::unbound_by_number))]
+fn unbound(stage: u64) -> bool
+    ensures { result ≡ unbound (stage_from stage) }
+{
+    if 3 < stage {
+        return false;
+    }
+    stage != 0
+}
+
 // The same where every index is inside: row 8 is not asked, and stage, method and voltages are read by the record's own fields.
 fn read_inside(r: DeviceRecord, x: &[f64], k: ConditionsRecord) -> Result<Reading, Refusal>
     requires { (any_node_beyond (length x.now) (terminals_from r.terminals) ≡ false)
@@ -150,7 +162,7 @@ fn read_inside(r: DeviceRecord, x: &[f64], k: ConditionsRecord) -> Result<Readin
     if step_rows::row6(temperature, k.gmin) {
         return Err(Refusal::Temperature);
     }
-    if from_record::device_from(r).stage.is_unbound() {
+    if unbound(r.stage) {
         return Err(Refusal::Stage);
     }
     let v = voltages_inside(x, r.terminals);
