@@ -3,7 +3,7 @@ use mathlib.Core.Path.{◌≡◌, refl, sym, ap, ◌∙◌}
 use mathlib.Core.Bool.{Bool, true, false, not, ◌&&◌, ◌||◌}
 use mathlib.Core.List.{List, [], ◌∷◌, ◌++◌}
 use Prim.Native.Nat.{ℕ, suc, ◌+◌, ◌≤◌, ◌<◌}
-use lib.ListN.{length, get_or, take}
+use lib.ListN.{length, get_or, take, drop}
 use Rattle.std.specs.List.{list_all}
 use Rattle.std.proofs.lemmas.List.{take_more}
 use lib.Ieee.{Float}
@@ -17,6 +17,7 @@ use Rattle.from_record.specs.Devices.{device_from}
 use Rattle.from_record.specs.Tags.{good_tags}
 use Rattle.record_words.specs.Words.{record_of}
 use Rattle.bridge.specs.Runs.{any_of}
+use Rattle.bridge.proofs.Runs.{any_here}
 use Rattle.bridge_devices.specs.Steps.{first_of, device_row, lower}
 use Rattle.bridge_devices.proofs.Lowest.{lower_of_two}
 use Rattle.device_bank.specs.Bank.{devices_of, bank_good, bank_row}
@@ -81,6 +82,14 @@ unfolding row_of bank_row first_of
 all_rows bank k P rows values well e = rw e refl
 
 -- ---- tags
+module _ (bank : List (List Float)) (i : ℕ) where
+  abbrev bad : List Float → Bool
+  bad w = not (good_tags (record_of w))
+
+  pub one_unknown : i < length bank → (r : Bool) → r ≡ good_tags (record_of (get_or bank i [])) → r ≡ false → any_of bad bank ≡ any_of bad (drop i bank) → false ≡ bank_good bank
+  unfolding bank_good
+  one_unknown h r e f same = ap not (any_here bad bank [] i h (ap not (sym e ∙ f)) ∙ sym same)
+
 pub all_good : (bank : List (List Float)) → list_all (λ (w : List Float). good_tags (record_of w)) bank ≡ bank_good bank
 unfolding bank_good any_of
 all_good bank = all_of bank

@@ -3,7 +3,8 @@ use Prim.Native.Nat.{ℕ, ◌*◌, ◌/◌, ◌%◌}
 use mathlib.Core.Path.{◌≡◌, refl, sym, ◌∙◌, ap, subst}
 use mathlib.Core.Bool.{Bool, true, false, not, cond, ◌&&◌, ◌||◌, beq}
 use lib.Dec.{T, eqb, leb}
-use lib.Ieee.{up, down, level, Float, nan, inf, fin, eq, ne, is_nan, binary64, of_bits, of_fields, nan_bits, top, hid}
+use lib.Ieee.{up, down, level, Float, nan, inf, fin, eq, ne, is_nan, binary64, of_bits, of_fields, nan_bits, to_bits, top, hid}
+use Rattle.hex_text.specs.Text.{digits_of, number_text}
 use borrow.Author.Tests.{eq-eqb, ne_eqb}
 
 nan_fields : (s : Bool) (x t : ℕ) → x ≡ 2047 → (t ≡ 0 → ⊥) → of_fields binary64 s x t ≡ nan
@@ -50,3 +51,10 @@ no_number nan e = refl
 no_number (inf true) e = absurd (subst T (sym e) tt)
 no_number (inf false) e = absurd (subst T (sym e) tt)
 no_number (fin s m k) e = absurd (clash (level s (m * up k * down k) s (m * up k * down k)) (itself s (m * up k * down k)) e)
+
+-- the text of what is a number: the sixteen digits of its bits
+pub number_text_lem : (x : Float) → T (not (is_nan x)) → number_text x ≡ digits_of 16 (to_bits binary64 x)
+unfolding number_text is_nan
+number_text_lem nan t = absurd t
+number_text_lem (inf s) t = refl
+number_text_lem (fin s m k) t = refl

@@ -2,16 +2,16 @@
 use mathlib.Core.Path.{◌≡◌, refl, ap, ◌∙◌}
 use mathlib.Core.Bool.{Bool, true, false, ◌&&◌, ◌||◌}
 use mathlib.Core.List.{List, [], ◌∷◌, ◌++◌}
-use Prim.Native.Nat.{ℕ}
+use Prim.Native.Nat.{ℕ, suc}
 use native.Mathlib.Omega.{arith}
 use lib.ListN.{length, get_or}
 use lib.Dec.{ltb}
-use Rattle.stamps.specs.Stamps.{jac_pairs_of}
+use Rattle.stamps.specs.Stamps.{jac_pairs_of, pair_between}
 use Rattle.stamps.specs.declared.Position.{Position}
-use Rattle.places.specs.Places.{terminals_at}
+use Rattle.places.specs.Places.{node_at, terminals_at}
 use Rattle.places.specs.declared.Nodes.{Nodes}
 use Rattle.resolved_rows.specs.LoadResolved.{numbers_from, grounded}
-use Rattle.resolved_rows.specs.ByNumbers.{pairs_stored, pair_stored, row_stored}
+use Rattle.resolved_rows.specs.ByNumbers.{cell_there, pairs_stored, pair_stored, row_stored}
 
 and_assoc : (a b c : Bool) → (a && (b && c)) ≡ (a && b && c)
 and_assoc true b c = refl
@@ -64,3 +64,10 @@ module _ (n : ℕ) where
       (first_four _ _ _ _ _ _ _ _ _ _ ∙ ap (λ (x : Bool). rs && x)
       (first_four _ _ _ _ _ _ _ _ _ _))))
       ∙ six_tests drain source rd rs bs bd
+
+-- four cells of a conductance in front of what else was asked
+module _ (n : ℕ) (w : List ℕ) (k m : ℕ) (rest : Bool) where
+  pub four_there_lem : (a b : ℕ) (cs : List Position) → rest ≡ pairs_stored n cs (numbers_from w (suc (suc (suc (suc k)))) m)
+      → (cell_there n a a (get_or w k 0) && (cell_there n a b (get_or w (suc k) 0) && (cell_there n b a (get_or w (suc (suc k)) 0) && (cell_there n b b (get_or w (suc (suc (suc k))) 0) && rest)))) ≡ pairs_stored n (pair_between (node_at a) (node_at b) cs) (numbers_from w k (suc (suc (suc (suc m)))))
+  unfolding pairs_stored numbers_from cell_there
+  four_there_lem a b cs e = ap (λ (x : Bool). cell_there n a a (get_or w k 0) && (cell_there n a b (get_or w (suc k) 0) && (cell_there n b a (get_or w (suc (suc k)) 0) && (cell_there n b b (get_or w (suc (suc (suc k))) 0) && x)))) e
