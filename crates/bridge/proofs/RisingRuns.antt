@@ -1,4 +1,4 @@
--- Runs that rise: no run leaves the rows, and no two overlap. How one pass from the last run to the first knows that they rise.
+-- Runs that rise: no run leaves the rows, and no two overlap. How one pass from the first run to the last knows that they rise.
 use mathlib.Core.Path.{◌≡◌, refl, sym, ap, ◌∙◌, subst}
 use mathlib.Core.Bool.{Bool, true, false, not, ◌&&◌, ◌||◌}
 use mathlib.Core.List.{List, [], ◌∷◌}
@@ -9,7 +9,7 @@ use native.Mathlib.Omega.{arith}
 use lib.ListN.{length, get_or, drop, drop_of_length-le}
 use lib.Seq.{drop-cons}
 use lib.Dec.{T, eqb, ltb}
-use borrow.Author.Tests.{le-ltb, ltb-false, not-true}
+use borrow.Author.Tests.{eq-eqb, le-ltb, ltb-false, not-true}
 use Rattle.bridge.specs.Runs.{any_of, Run, end_of, overlap, any_overlap, leaves, runs_of, bad_runs, bridge_refused}
 use Rattle.bridge.specs.Steps.{limit_of, rising}
 use Rattle.bridge.proofs.Runs.{no_run, length_runs, run_at}
@@ -117,3 +117,11 @@ unfolding bridge_refused bad_runs
 refused_by_pass starts counts rows devices =
     either_way (rising rows (runs_of starts counts)) (ltb 64 devices) (not (eqb (length starts) (length counts))) (any_of (leaves rows) (runs_of starts counts)) (any_overlap (runs_of starts counts))
     (λ h. (rising_inside rows (runs_of starts counts) h, rising_apart rows (runs_of starts counts) h))
+
+-- ---- row 14 does not apply
+pub all_rise : (starts counts : List ℕ) (rows devices : ℕ) → devices ≤ 64 → length starts ≡ length counts
+    → (r : Bool) → r ≡ rising rows (runs_of starts counts) → r ≡ true → false ≡ bridge_refused starts counts rows devices
+unfolding bridge_refused bad_runs
+all_rise starts counts rows devices few same r e t =
+    let h = sym e ∙ t in
+    rw (le-ltb 64 devices few, eq-eqb (length starts) (length counts) same, rising_inside rows (runs_of starts counts) h, rising_apart rows (runs_of starts counts) h)

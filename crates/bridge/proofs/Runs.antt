@@ -1,17 +1,15 @@
 -- Runs read one by one out of two slices.
 use mathlib.Core.Path.{◌≡◌, refl, sym, ap, ◌∙◌, subst}
-use mathlib.Core.Bool.{Bool, true, false, not, ◌&&◌, ◌||◌}
+use mathlib.Core.Bool.{Bool, true, false, not, ◌||◌}
 use mathlib.Core.List.{List, [], ◌∷◌}
-use Prim.Native.Nat.{ℕ, zero, suc, ◌+◌, ◌-◌, ◌≤◌, ◌<◌}
+use Prim.Native.Nat.{ℕ, zero, suc, ◌+◌, ◌≤◌, ◌<◌}
 use native.Mathlib.Nat.{suc_inj, suc-ne-zero, le_of_suc-le-suc, not-suc-le-zero}
 use native.Mathlib.Numerals.{add-one}
 use native.Mathlib.Omega.{arith}
-use lib.ListN.{length, get_or, take, drop, drop_of_length-le}
-use Rattle.std.proofs.Common.{length-drop}
-use Rattle.std.proofs.lemmas.List.{take_all}
+use lib.ListN.{length, get_or, drop, drop_of_length-le}
 use lib.Seq.{drop-cons}
 use lib.Dec.{T, eqb, leb, ltb}
-use borrow.Author.Tests.{eq-eqb, ne_eqb, lt-ltb, le-ltb, ltb-true, ltb-false, eqb-true, leb-false}
+use borrow.Author.Tests.{ltb-false, eqb-true, leb-false}
 use Rattle.std.specs.List.{zip, list_any}
 use Rattle.bridge.specs.Runs.{any_of, Run, overlap, any_overlap, leaves, runs_of, bad_runs, bridge_refused, block_refused}
 
@@ -69,19 +67,21 @@ any_beside p [] counts = refl
 any_beside p (s ∷ starts) [] = refl
 any_beside p (s ∷ starts) (n ∷ counts) = ap (λ (b : Bool). p (record { start = s; count = n }) || b) (any_beside p starts counts)
 
-pub behind : (first : ℕ) (xs : List ℕ) → take (length xs - first) (drop first xs) ≡ drop first xs
-behind first xs = take_all (length xs - first) (drop first xs) (omega (arith, length-drop first xs))
+module _ (p : Run → Bool) (starts counts : List ℕ) (same : length starts ≡ length counts) (k : ℕ) where
+  abbrev read : Run
+  read = record { start = get_or starts k 0; count = get_or counts k 0 }
 
-pub drop_runs : (first : ℕ) (starts counts : List ℕ) → runs_of (drop first starts) (drop first counts) ≡ drop first (runs_of starts counts)
-unfolding runs_of
-drop_runs zero starts counts = refl
-drop_runs (suc k) [] counts = refl
-drop_runs (suc k) (s ∷ starts) [] = none (drop k starts)
-  where
-    none : (xs : List ℕ) → runs_of xs [] ≡ []
-    none [] = refl
-    none (x ∷ xs) = refl
-drop_runs (suc k) (s ∷ starts) (n ∷ counts) = drop_runs k starts counts
+  inside : k < length starts → k < length (runs_of starts counts)
+  inside h = omega (arith, length_runs starts counts same)
+
+  pub run_here : k < length starts → (r : Bool) → r ≡ p read → r ≡ true → true ≡ any_of p (drop k (runs_of starts counts))
+  run_here h r e t = any_here p (runs_of starts counts) no_run k (inside h) (ap p (run_at starts counts same k h) ∙ sym e ∙ t)
+
+  pub run_later : k < length starts → (r : Bool) → r ≡ p read → r ≡ false → any_of p (drop k (runs_of starts counts)) ≡ any_of p (drop (k + 1) (runs_of starts counts))
+  run_later h r e t = any_later p (runs_of starts counts) no_run k (inside h) (ap p (run_at starts counts same k h) ∙ sym e ∙ t)
+
+  pub run_end : length starts ≤ k → false ≡ any_of p (drop k (runs_of starts counts))
+  run_end h = any_end p (runs_of starts counts) no_run k (omega (arith, length_runs starts counts same))
 
 -- ---- two of a list
 module _ (starts counts : List ℕ) (same : length starts ≡ length counts) where

@@ -13,7 +13,8 @@ pub struct Run {
 }
 
 impl Run {
-    // It shares a row with another. No end is worked out, so that none can overflow.
+    // It shares a row with another: the one that begins first goes on behind the first row of the other. No end is worked out, so that none
+    // can overflow. The distance of the first rows is the same both ways, and this is asked of each pair of runs, so it is worked out once.
     #[tactic(auto, unfolding(crate::specs::Runs::overlap))]
     fn overlaps(self, other: Run) -> bool
         ensures { result ≡ overlap self other }
@@ -21,11 +22,12 @@ impl Run {
         if self.count == 0 || other.count == 0 {
             return false;
         }
-        if self.start <= other.start {
-            other.start - self.start < self.count
+        let count = if self.start <= other.start {
+            self.count
         } else {
-            self.start - other.start < other.count
-        }
+            other.count
+        };
+        self.start.abs_diff(other.start) < count
     }
 
     // It goes past so many rows. Its count is compared with what is left behind its first row, since the sum could overflow.
@@ -54,16 +56,22 @@ impl BlockRuns<'_> {
             .any(|(&start, &count)| Run { start, count }.leaves(rows))
     }
 
-    // One of those from the number `first` on shares a row with a run.
+    // One of those from the number `first` on shares a row with a run. By index: `zip` asks for two ends at each step, and this is asked for
+    // each run, so of each pair.
     fn any_overlaps(self, first: usize, run: Run) -> bool
-        requires inside { first < length self.starts.now + 1 }
         requires same { length self.starts.now ≡ length self.counts.now }
         ensures { result ≡ any_of (overlap run) (drop first (runs_of self.entry.starts.now self.entry.counts.now)) }
     {
-        self.starts[first..]
-            .iter()
-            .zip(&self.counts[first..])
-            .any(|(&start, &count)| run.overlaps(Run { start, count }))
+        for j in first..self.starts.len() {
+            let other = Run {
+                start: self.starts[j],
+                count: self.counts[j],
+            };
+            if run.overlaps(other) {
+                return true;
+            }
+        }
+        false
     }
 
     fn any_overlap(self) -> bool

@@ -1,16 +1,16 @@
-use borrow.Author.Tests.{tests}
-use lib.ListN.{drop}
-use Rattle.std.proofs.Common.{ℕ, rules, ap, ◌∙◌}
-use Rattle.std.proofs.lemmas.Iterator.{YieldsList-from_slice, YieldsList-from_zip}
-use Rattle.std.proofs.lemmas.Iterator.Consumers.{YieldsList-at}
-use Rattle.std.proofs.lemmas.Iterator.Search.{any_from_yields_List}
-use Rattle.bridge.specs.Runs.{any_of, overlap}
-use Rattle.bridge.proofs.Runs.{any_beside, behind, drop_runs}
+use native.Mathlib.Omega.{arith}
+use Rattle.std.proofs.Common.{sym, ◌∙◌}
+use Rattle.bridge.specs.Runs.{overlap}
+use Rattle.bridge.proofs.Runs.{run_here, run_later, run_end}
 use Rattle.bridge.proofs.BlockRuns.any_overlaps.Goals as goal
 
+pub returns-then-overlaps : goal.returns-then-overlaps
+returns-then-overlaps c =
+    run_here (overlap c.args.run) c.args.self.starts.now c.args.self.counts.now c.requires.same c.loop-j.j (omega arith) _ c.overlaps.ensures c.if-overlaps.true ∙ sym c.loop-j.invariant
+
+pub loop-j-preserved : goal.loop-j-preserved
+loop-j-preserved c =
+    c.loop-j.invariant ∙ run_later (overlap c.args.run) c.args.self.starts.now c.args.self.counts.now c.requires.same c.loop-j.j (omega arith) _ c.overlaps.ensures c.if-overlaps.false
+
 pub returns : goal.returns
-returns c =
-    let road = YieldsList-from_zip {s = c.zip.result} (YieldsList-at c.zip.ensures.first (YieldsList-from_slice (drop c.args.first c.args.self.starts.now) (c.iter.ensures.rest ∙ behind c.args.first c.args.self.starts.now))) (YieldsList-from_slice (drop c.args.first c.args.self.counts.now) (c.zip.ensures.second.0 ∙ behind c.args.first c.args.self.counts.now)) in
-    any_from_yields_List (λ (q : ℕ × ℕ). overlap c.args.run (record { start = q.0; count = q.1 })) c.any.new.self _ c.any.result c.any.ensures.ran road (λ x b q k. search (rules, tests))
-    ∙ any_beside (overlap c.args.run) (drop c.args.first c.args.self.starts.now) (drop c.args.first c.args.self.counts.now)
-    ∙ ap (any_of (overlap c.args.run)) (drop_runs c.args.first c.args.self.starts.now c.args.self.counts.now)
+returns c = run_end (overlap c.args.run) c.args.self.starts.now c.args.self.counts.now c.requires.same c.loop-j.j (omega arith) ∙ sym c.loop-j.invariant
