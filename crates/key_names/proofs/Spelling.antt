@@ -1,16 +1,19 @@
 -- A key is a name, ASCII case ignored, just where it spells the name, since the names are in lower case.
 use mathlib.Core.Path.{◌≡◌, refl, sym, ap₂}
-use mathlib.Core.Bool.{Bool, true, false, cond, ◌&&◌}
+use mathlib.Core.Bool.{Bool, true, false, cond, ◌&&◌, ◌||◌}
 use mathlib.Core.List.{List, [], ◌∷◌}
-use Prim.Native.Nat.{ℕ}
+use Prim.Native.Nat.{ℕ, ◌+◌, ◌<◌, ◌≤◌}
 use Prim.Native.Char.{code}
 use Prim.Native.String.{String}
 use Prim.Native.String as Text
+use native.Mathlib.Numerals.{add-one}
 use native.Mathlib.Omega.{arith}
+use lib.ListN.{length, get_or, drop, drop_of_length-le}
+use lib.Seq.{drop-cons}
 use borrow.Author.Tests.{eqb-true}
 use lib.Dec.{T, eqb}
 use Rattle.std.proofs.lemmas.Bool.Decides.{nat_tests}
-use Rattle.std.specs.Char.{to_ascii_lowercase}
+use Rattle.std.specs.Char.{to_ascii_lowercase, to_ascii_uppercase, eq_ignore_ascii_case}
 use Rattle.std.specs.Str.{str_eq_ignore_ascii_case}
 use Rattle.keys.specs.Names.{Name, ◌means◌, card_names, geometry_names, names_of, lower_of, spells, named}
 use Rattle.keys.specs.declared.Meaning.{Meaning}
@@ -21,6 +24,17 @@ use Rattle.key_names.specs.Spelling.{bytes_of, found}
 same : (b : ℕ) → to_ascii_lowercase b ≡ lower_of b
 unfolding lower_of
 same b = grind (arith, nat_tests)
+
+-- a byte is another, case ignored, where it is that one in either case
+pub either_case : (a b : ℕ) → (eqb a (to_ascii_lowercase b) || eqb a (to_ascii_uppercase b)) ≡ eq_ignore_ascii_case a b
+either_case a b = grind (arith, nat_tests)
+
+-- one byte more of a key and a name, case ignored
+pub case_step : (key name : List ℕ) (i : ℕ) → i < length key → i < length name → str_eq_ignore_ascii_case (drop i key) (drop i name) ≡ (eq_ignore_ascii_case (get_or key i 0) (get_or name i 0) && str_eq_ignore_ascii_case (drop (i + 1) key) (drop (i + 1) name))
+case_step key name i h g = rw (add-one i, drop-cons key i 0 h, drop-cons name i 0 g)
+
+pub case_end : (key name : List ℕ) (i : ℕ) → length key ≤ i → length name ≤ i → str_eq_ignore_ascii_case (drop i key) (drop i name) ≡ true
+case_end key name i h g = rw (drop_of_length-le key h, drop_of_length-le name g)
 
 abbrev low : String → Bool
 low Text.[] = true

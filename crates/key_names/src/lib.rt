@@ -2,17 +2,37 @@
 #![tactic(auto)]
 
 ghost use Rattle.std.specs.Prelude.{◌≡◌};
+ghost use Rattle.std.specs.Char.{eq_ignore_ascii_case};
 ghost use Rattle.std.specs.Str.{str_eq_ignore_ascii_case};
 ghost use Rattle.keys.specs.Names.{card_names, geometry_names, meaning_of};
 ghost use Rattle.key_names.specs.Spelling.{found};
 
 use keys::{Key, Meaning, Table};
 
-// Whether a key is a name, ASCII case ignored.
+// Whether a byte of a key is that of a name, ASCII case ignored. Both cases are of the name's byte: it is a constant where the names are
+// compared, and the key's byte would be brought to lower case anew for each name.
+#[tactic(auto, using(crate::proofs::Spelling::either_case))]
+#[inline(always)]
+fn is_byte(byte: u8, of_name: u8) -> bool
+    ensures { result ≡ eq_ignore_ascii_case byte of_name }
+{
+    byte == of_name.to_ascii_lowercase() || byte == of_name.to_ascii_uppercase()
+}
+
+// Whether a key is a name, ASCII case ignored. It is copied into the lists of names: there a name's length and bytes are constants.
+#[inline(always)]
 fn is(key: &[u8], name: &[u8]) -> bool
     ensures { result ≡ str_eq_ignore_ascii_case key.now name.now }
 {
-    key.eq_ignore_ascii_case(name)
+    if key.len() != name.len() {
+        return false;
+    }
+    for i in 0..name.len() {
+        if !is_byte(key[i], name[i]) {
+            return false;
+        }
+    }
+    true
 }
 
 // The card's key of a name.
