@@ -3,6 +3,7 @@ use crate::load_calls::{kind, pattern, put_load};
 use crate::prefixes::first;
 use crate::readings::{filled, pairs_filled, whole};
 use crate::replies::{Fault, Session, accepted, put_name, words_of};
+use crate::script::word::from_word;
 
 // A word that is a whole number below `most`.
 fn below(line: &[u8], k: usize, most: u64) -> Result<usize, Fault> {
@@ -28,12 +29,12 @@ pub fn place(
     Ok(put_name(out, line))
 }
 
-// `COUNT RUNS dc|tran:ALPHA RHS COLUMNS ROWS VALUES` from the word k on: the load of a block, or of the whole bridge where there is none.
+// `COUNT RUNS dc|tran:ALPHA RHS COLUMNS ROWS VALUES` at a line's end: the load of a block, or of the whole bridge where there is none.
 fn load(
     bank: &[[f64; 113]],
     block: Option<usize>,
     line: &[u8],
-    k: usize,
+    words: &[u8],
     out: &mut [u8],
 ) -> Result<usize, Fault> {
     let mut starts = [0usize; 4096];
@@ -43,18 +44,12 @@ fn load(
     let mut offsets = [0usize; 4096];
     let mut lengths = [0usize; 4096];
     let mut values = [0.0; 4096];
-    let devices = below(line, k, 66)?;
-    let runs = pairs_filled(line, k.saturating_add(1), &mut starts, &mut counts)?;
-    let kind = kind(line, k.saturating_add(2))?;
-    let numbers = filled(line, k.saturating_add(3), &mut rhs)?;
-    let p = pattern(
-        line,
-        k.saturating_add(4),
-        &mut columns,
-        &mut offsets,
-        &mut lengths,
-    )?;
-    let count = filled(line, k.saturating_add(6), &mut values)?;
+    let devices = below(words, 0, 66)?;
+    let runs = pairs_filled(words, 1, &mut starts, &mut counts)?;
+    let kind = kind(words, 2)?;
+    let numbers = filled(words, 3, &mut rhs)?;
+    let p = pattern(words, 4, &mut columns, &mut offsets, &mut lengths)?;
+    let count = filled(words, 6, &mut values)?;
     let row = match block {
         Some(block) => mivtolgya_bridge::mivtolgya_load_block(
             first(bank, devices),
@@ -89,10 +84,10 @@ fn load(
 // `loadblock K COUNT RUNS ..`
 pub fn load_block(bank: &[[f64; 113]], line: &[u8], out: &mut [u8]) -> Result<usize, Fault> {
     let block = whole(line, 1)? as usize;
-    load(bank, Some(block), line, 2, out)
+    load(bank, Some(block), line, from_word(line, 2), out)
 }
 
 // `loadbridge COUNT RUNS ..`
 pub fn load_bridge(bank: &[[f64; 113]], line: &[u8], out: &mut [u8]) -> Result<usize, Fault> {
-    load(bank, None, line, 1, out)
+    load(bank, None, line, from_word(line, 1), out)
 }

@@ -75,7 +75,7 @@ fn words_of(command: Command) -> Option<usize> {
 
 // Blank lines and those that start with `#` have no answer. A line of more than 65,536 bytes is never silent.
 pub fn is_silent(line: &[u8]) -> bool {
-    line.len() <= 65536 && (word_count(line) == 0 || line[0] == b'#')
+    line.len() <= 65536 && (line.iter().all(|b| *b == b' ') || line[0] == b'#')
 }
 
 // A line's command; none for a line that is not understood. A line of more than 65,536 bytes is no command, whatever its bytes are.

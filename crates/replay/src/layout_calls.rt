@@ -1,6 +1,6 @@
 // The extra nodes of the present device and the layout of its matrix, by the words of a line.
 use crate::answers::{put_behind, put_list};
-use crate::prefixes::{first, first_mut};
+use crate::prefixes::first;
 use crate::readings::filled;
 use crate::replies::{Fault, Session, accepted, words_of};
 use record_words::record_of;
@@ -23,9 +23,9 @@ pub fn cells(session: &Session, line: &[u8], out: &mut [u8]) -> Result<usize, Fa
     let c = filled(line, 3, &mut lengths)?;
     let o = record_layout::matrix_layout(
         record_of(&words_of(session)),
-        first_mut(&mut columns, a),
-        first_mut(&mut offsets, b),
-        first_mut(&mut lengths, c),
+        &mut columns[..a.min(4096)],
+        &mut offsets[..b.min(4096)],
+        &mut lengths[..c.min(4096)],
     );
     accepted(o.refusal)?;
     let d = hex_text::put_text(out, 0, b"cells");

@@ -6,8 +6,3 @@ pub fn first<'a, T>(xs: &'a [T], n: usize) -> &'a [T]
 {
     &xs[..n.min(xs.len())]
 }
-
-pub fn first_mut<'a, T>(xs: &'a mut [T], n: usize) -> &'a mut [T] {
-    let end = n.min(xs.len());
-    &mut xs[..end]
-}
