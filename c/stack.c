@@ -53,7 +53,8 @@ static size_t laid_offsets[6], laid_lengths[6];
 static mivtolgya_noise_outcome noise_outcome;
 static mivtolgya_reactances_outcome reactances_outcome;
 static mivtolgya_device bank[3];
-static const size_t starts[] = {0, 6}, counts[] = {6, 2};
+/* the runs do not rise, so that each is held to each */
+static const size_t starts[] = {2, 0}, counts[] = {6, 2};
 static double shared[8];
 static uint64_t refusal;
 

@@ -1,6 +1,6 @@
 -- Runs read one by one out of two slices.
 use mathlib.Core.Path.{◌≡◌, refl, sym, ap, ◌∙◌, subst}
-use mathlib.Core.Bool.{Bool, true, false, not, ◌||◌}
+use mathlib.Core.Bool.{Bool, true, false, not, ◌&&◌, ◌||◌}
 use mathlib.Core.List.{List, [], ◌∷◌}
 use Prim.Native.Nat.{ℕ, zero, suc, ◌+◌, ◌≤◌, ◌<◌}
 use native.Mathlib.Nat.{suc_inj, suc-ne-zero, le_of_suc-le-suc, not-suc-le-zero}
@@ -82,6 +82,20 @@ module _ (p : Run → Bool) (starts counts : List ℕ) (same : length starts ≡
 
   pub run_end : length starts ≤ k → false ≡ any_of p (drop k (runs_of starts counts))
   run_end h = any_end p (runs_of starts counts) no_run k (omega (arith, length_runs starts counts same))
+
+third_false : (p q r : Bool) → (p && q && false && r) ≡ false
+third_false true true r = refl
+third_false true false r = refl
+third_false false q r = refl
+
+-- an empty run shares a row with none
+pub empty_shares_none : (a : Run) → a.count ≡ 0 → (xs : List Run) → any_of (overlap a) xs ≡ false
+unfolding any_of overlap
+empty_shares_none a e [] = refl
+empty_shares_none a e (x ∷ xs) =
+    ap (λ (n : ℕ). (ltb a.start (x.start + x.count) && ltb x.start (a.start + n) && not (eqb n 0) && not (eqb x.count 0)) || any_of (overlap a) xs) e
+    ∙ ap (λ (b : Bool). b || any_of (overlap a) xs) (third_false (ltb a.start (x.start + x.count)) (ltb x.start (a.start + 0)) (not (eqb x.count 0)))
+    ∙ empty_shares_none a e xs
 
 -- ---- two of a list
 module _ (starts counts : List ℕ) (same : length starts ≡ length counts) where

@@ -1,9 +1,9 @@
 // Row 14 of the refusals: the runs of rows that the blocks of a bridge own in the shared right-hand side.
 #![tactic(auto)]
 
-ghost use Rattle.std.specs.Prelude.{◌≡◌, ◌+◌, ◌<◌, length, drop, get_or};
+ghost use Rattle.std.specs.Prelude.{◌≡◌, ◌+◌, ◌<◌, true, false, length, drop, get_or};
 ghost use Rattle.bridge.specs.Runs.{any_of, leaves, overlap, any_overlap, runs_of, bad_runs, bridge_refused, block_refused};
-ghost use Rattle.bridge.specs.Steps.{limit_of, rising};
+ghost use Rattle.bridge.specs.Steps.{run_of, limit_of, rising};
 
 // A run of rows: its first one, and how many there are.
 #[derive(Clone, Copy)]
@@ -13,8 +13,7 @@ pub struct Run {
 }
 
 impl Run {
-    // It shares a row with another: the one that begins first goes on behind the first row of the other. No end is worked out, so that none
-    // can overflow. The distance of the first rows is the same both ways, and this is asked of each pair of runs, so it is worked out once.
+    // It shares a row with another. No end is worked out, so that none can overflow.
     #[tactic(auto, unfolding(crate::specs::Runs::overlap))]
     fn overlaps(self, other: Run) -> bool
         ensures { result ≡ overlap self other }
@@ -22,12 +21,22 @@ impl Run {
         if self.count == 0 || other.count == 0 {
             return false;
         }
-        let count = if self.start <= other.start {
-            self.count
+        if self.start <= other.start {
+            other.start - self.start < self.count
         } else {
-            other.count
-        };
-        self.start.abs_diff(other.start) < count
+            self.start - other.start < other.count
+        }
+    }
+
+    // The first row of neither lies in the other: no row is shared. The distance of the first rows is taken both ways, where one goes round
+    // the end of the numbers, so that nothing hangs on which of the two begins first: the processor foresees it for runs in any order. Of runs
+    // that share no row some are not apart so: an empty one inside the other, and one that goes past the last number.
+    #[tactic(auto, unfolding(crate::specs::Runs::overlap))]
+    fn apart(self, other: Run) -> bool
+        ensures { result ≡ true → overlap self other ≡ false }
+    {
+        other.count <= self.start.wrapping_sub(other.start)
+            && self.count <= other.start.wrapping_sub(self.start)
     }
 
     // It goes past so many rows. Its count is compared with what is left behind its first row, since the sum could overflow.
@@ -56,34 +65,59 @@ impl BlockRuns<'_> {
             .any(|(&start, &count)| Run { start, count }.leaves(rows))
     }
 
-    // One of those from the number `first` on shares a row with a run. By index: `zip` asks for two ends at each step, and this is asked for
-    // each run, so of each pair.
-    fn any_overlaps(self, first: usize, run: Run) -> bool
+    // Two of the runs share a row. Asked only of runs that are not apart: out of line, it leaves the loop that asks that of each pair short.
+    #[inline(never)]
+    fn pair_overlaps(self, k: usize, j: usize) -> bool
+        requires first { k < length self.starts.now }
+        requires second { j < length self.starts.now }
         requires same { length self.starts.now ≡ length self.counts.now }
-        ensures { result ≡ any_of (overlap run) (drop first (runs_of self.entry.starts.now self.entry.counts.now)) }
+        ensures { result ≡ overlap (run_of self.entry.starts.now self.entry.counts.now k) (run_of self.entry.starts.now self.entry.counts.now j) }
     {
-        for j in first..self.starts.len() {
+        let run = Run {
+            start: self.starts[k],
+            count: self.counts[k],
+        };
+        let other = Run {
+            start: self.starts[j],
+            count: self.counts[j],
+        };
+        run.overlaps(other)
+    }
+
+    // A run shares a row with one of those behind it. By index: `zip` asks for two ends at each step, and this is asked of each run, so of
+    // each pair.
+    fn overlaps_later(self, k: usize) -> bool
+        requires inside { k < length self.starts.now }
+        requires same { length self.starts.now ≡ length self.counts.now }
+        ensures { result ≡ any_of (overlap (run_of self.entry.starts.now self.entry.counts.now k)) (drop (k + 1) (runs_of self.entry.starts.now self.entry.counts.now)) }
+    {
+        let run = Run {
+            start: self.starts[k],
+            count: self.counts[k],
+        };
+        if run.count == 0 {
+            return false;
+        }
+        for j in k + 1..self.starts.len() {
             let other = Run {
                 start: self.starts[j],
                 count: self.counts[j],
             };
-            if run.overlaps(other) {
+            if !run.apart(other) && self.pair_overlaps(k, j) {
                 return true;
             }
         }
         false
     }
 
+    // Out of line: the loops of all loads are then one code, whose time hangs less on where the linker puts it.
+    #[inline(never)]
     fn any_overlap(self) -> bool
         requires same { length self.starts.now ≡ length self.counts.now }
         ensures { result ≡ any_overlap (runs_of self.entry.starts.now self.entry.counts.now) }
     {
         for k in 0..self.starts.len() {
-            let run = Run {
-                start: self.starts[k],
-                count: self.counts[k],
-            };
-            if self.any_overlaps(k + 1, run) {
+            if self.overlaps_later(k) {
                 return true;
             }
         }

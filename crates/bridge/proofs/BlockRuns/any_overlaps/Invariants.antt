@@ -1,6 +1,0 @@
-use Rattle.std.proofs.Common.{◌≡◌, drop}
-use Rattle.bridge.specs.Runs.{any_of, overlap, runs_of}
-use Rattle.bridge.proofs.BlockRuns.any_overlaps.Given as goal
-
-abbrev pub invariant-loop-j : goal.invariant-loop-j
-invariant-loop-j l = any_of (overlap l.run) (drop l.first (runs_of l.self.starts.now l.self.counts.now)) ≡ any_of (overlap l.run) (drop l.j (runs_of l.self.starts.now l.self.counts.now))
