@@ -53,8 +53,8 @@ static size_t laid_offsets[6], laid_lengths[6];
 static mivtolgya_noise_outcome noise_outcome;
 static mivtolgya_reactances_outcome reactances_outcome;
 static mivtolgya_device bank[3];
-/* the runs do not rise, so that each is held to each */
-static const size_t starts[] = {2, 0}, counts[] = {6, 2};
+/* the second is empty and lies inside the first: row 14 is then asked to its end */
+static const size_t starts[] = {2, 3}, counts[] = {6, 0};
 static double shared[8];
 static uint64_t refusal;
 

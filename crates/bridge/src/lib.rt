@@ -30,7 +30,7 @@ impl Run {
 
     // The first row of neither lies in the other: no row is shared. The distance of the first rows is taken both ways, where one goes round
     // the end of the numbers, so that nothing hangs on which of the two begins first: the processor foresees it for runs in any order. Of runs
-    // that share no row some are not apart so: an empty one inside the other, and one that goes past the last number.
+    // that share no row some are not apart so: an empty one inside the other, and one so long that it comes round to the other's first row.
     #[tactic(auto, unfolding(crate::specs::Runs::overlap))]
     fn apart(self, other: Run) -> bool
         ensures { result ≡ true → overlap self other ≡ false }
@@ -65,7 +65,7 @@ impl BlockRuns<'_> {
             .any(|(&start, &count)| Run { start, count }.leaves(rows))
     }
 
-    // Two of the runs share a row. Asked only of runs that are not apart: out of line, it leaves the loop that asks that of each pair short.
+    // Two of the runs share a row. Asked only of runs that are not apart, and out of line, so that the loop over the pairs stays short.
     #[inline(never)]
     fn pair_overlaps(self, k: usize, j: usize) -> bool
         requires first { k < length self.starts.now }
@@ -84,8 +84,8 @@ impl BlockRuns<'_> {
         run.overlaps(other)
     }
 
-    // A run shares a row with one of those behind it. By index: `zip` asks for two ends at each step, and this is asked of each run, so of
-    // each pair.
+    // A run shares a row with one of those behind it; an empty one need not be held to them. By index: `zip` asks for two ends at each step,
+    // and this is asked of each pair.
     fn overlaps_later(self, k: usize) -> bool
         requires inside { k < length self.starts.now }
         requires same { length self.starts.now ≡ length self.counts.now }
